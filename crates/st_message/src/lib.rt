@@ -1,0 +1,12 @@
+//! What servers and clients say to each other, what a server records, and why it ignores an event.
+#![tactic(auto)]
+
+mod change;
+mod event;
+mod message;
+mod reason;
+
+pub use change::{Change, Changes, Heard, HeardList};
+pub use event::{Event, Outcome, Output, Outputs, Plan, Scope};
+pub use message::{Message, Proof, Proofs, ReportBody, Reports, SiteWord, SiteWords, ViewWords};
+pub use reason::Reason;

@@ -1,0 +1,6 @@
+//! The schedule: one event a line.
+#![tactic(auto)]
+
+mod line;
+
+pub use line::{Dest, Line, Lines};
