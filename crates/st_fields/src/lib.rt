@@ -6,8 +6,10 @@ mod copied;
 mod error;
 mod same;
 mod seq;
+mod shared;
 
 pub use copied::Copied;
 pub use error::WordsError;
 pub use same::Same;
 pub use seq::{Bytes, Seq};
+pub use shared::Shared;
