@@ -1,0 +1,59 @@
+use crate::change::{Changes, HeardList};
+use crate::event::Scope;
+use crate::message::{Message, Proof};
+use crate::reason::Reason;
+use st_fields::{Bytes, Seq};
+use st_seal::Quorums;
+use st_words::Statement;
+
+/// In which message a statement goes out.
+#[derive(Debug, Drop)]
+pub enum Form {
+    Share,
+    /// With the client's seal, or no bytes.
+    Assign {
+        client_seal: Bytes,
+    },
+    /// With a certificate for each item, and the order proof of the base.
+    Report {
+        quorums: Quorums,
+        base: Option<Proof>,
+    },
+    Reply,
+}
+
+/// What goes out: a statement that is sealed with its own leaf, or a message without a seal of this
+/// server's own.
+#[derive(Debug, Drop)]
+pub enum Out {
+    Make {
+        statement: Statement,
+        form: Form,
+        to: Scope,
+    },
+    Send {
+        message: Message,
+        to: Scope,
+    },
+}
+
+/// What goes out, in order.
+pub type Outs = Seq<Out>;
+
+/// What one part of a server does at an event: it records the changes, then keeps what was heard, then
+/// this goes out.
+#[derive(Debug, Drop)]
+pub struct Step {
+    pub changes: Changes,
+    pub heard: HeardList,
+    pub out: Outs,
+}
+
+/// Why a part does nothing.
+#[derive(Clone, Copy, Debug, PartialEq, Eq)]
+pub enum Refused {
+    /// The event is ignored for this reason.
+    Ignored(Reason),
+    /// Memory was refused.
+    OutOfMemory,
+}

@@ -1,0 +1,11 @@
+/// How many messages a replay hands out at most.
+pub const MOST_MESSAGES: u32 = 65_536;
+
+/// How many bytes the messages of a replay have together at most.
+pub const MOST_SENT: u64 = 33_554_432;
+
+/// How many bytes a journal's file has at most.
+pub const MOST_JOURNAL: u64 = 4_294_967_296;
+
+/// How many bytes a journal's file has before its first body.
+pub const EMPTY_JOURNAL: u64 = 9;
