@@ -11,7 +11,9 @@ use st_words::Statement;
 pub enum Form {
     Share,
     /// With the client's seal, or no bytes.
-    Assign { client_seal: Bytes },
+    Assign {
+        client_seal: Bytes,
+    },
     /// With a certificate for each item, and the order proof of the base.
     Report {
         quorums: Quorums,
