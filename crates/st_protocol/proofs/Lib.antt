@@ -1,0 +1,4 @@
+-- Lemmas.
+pub mod StateLaws
+pub mod CourseLaws
+pub mod FilterLaws

@@ -1,0 +1,7 @@
+//! The duties of a server and the world of a deployment, as definitions, with their laws: each law is the
+//! contract of a function with nothing to do.
+#![tactic(auto)]
+
+mod laws;
+
+pub use laws::answers_of_longer_lists;
