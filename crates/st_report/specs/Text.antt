@@ -25,9 +25,17 @@ unfoldable pub hex_text : List ℕ → List ℕ
 hex_text [] = codes "-"
 hex_text (b ∷ bs) = encode_lower (b ∷ bs)
 
+unfoldable pub deployment_word : List ℕ
+deployment_word = codes "deployment "
+
+unfoldable pub deployment_words : Header → List ℕ
+deployment_words h = deployment_word ++ decimal h.id ++ codes " sites " ++ decimal h.sites
+
+unfoldable pub faults_words : Header → List ℕ
+faults_words h = codes " f " ++ decimal h.f ++ codes " clients " ++ decimal h.clients ++ codes "\n"
+
 unfoldable pub header_line : Header → List ℕ
-header_line h =
-    codes "deployment " ++ decimal h.id ++ codes " sites " ++ decimal h.sites ++ codes " f " ++ decimal h.f ++ codes " clients " ++ decimal h.clients ++ codes "\n"
+header_line h = deployment_words h ++ faults_words h
 
 unfoldable pub done_words : DoneWords → List ℕ
 done_words (done.Sent m) = codes "sent " ++ decimal m

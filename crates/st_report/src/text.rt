@@ -1,6 +1,6 @@
 ghost use Rattle.std.specs.Prelude.{◌≡◌, ℕ, List, ◌+◌, ◌<◌, ◌≤◌, ◌^◌, ◌++◌, length, string_bytes, IfOk, OnOk};
 ghost use Rattle.std.specs.List.{flat_map};
-ghost use Rattle.st_report.specs.Text.{hex_text, header_line, done_words, done_line, state_word, server_line, ran_words, value_words, number_line, number_lines, server_lines, client_words, client_line, counts_line, report};
+ghost use Rattle.st_report.specs.Text.{hex_text, deployment_word, deployment_words, faults_words, header_line, done_words, done_line, state_word, server_line, ran_words, value_words, number_line, number_lines, server_lines, client_words, client_line, counts_line, report};
 
 use crate::rows::{ClientRow, DoneRow, DoneWords, Header, LogRow, Rows, ServerRow, StateWord};
 use st_fields::{Bytes, Seq};
@@ -84,13 +84,37 @@ fn put_rows<T: Printed>(alloc: Global, out: &mut String, rows: &[T]) -> Result<(
 fn put_header(out: &mut String, header: &Header) -> Result<(), AllocError>
     ensures { OnOk result (string_bytes out.new ≡ string_bytes out.old ++ header_line header.now) }
 {
+    put_deployment(out, header)?;
+    put_faults(out, header)?;
+    Ok(())
+}
+
+#[tactic(auto, unfolding(crate::specs::Text::deployment_words))]
+fn put_deployment(out: &mut String, header: &Header) -> Result<(), AllocError>
+    ensures { OnOk result (string_bytes out.new ≡ string_bytes out.old ++ deployment_words header.now) }
+{
     let id = header.id;
     let sites = header.sites;
+    put_deployment_word(out)?;
+    write!(out, "{id} sites {sites}")?;
+    Ok(())
+}
+
+#[tactic(auto, unfolding(crate::specs::Text::deployment_word))]
+fn put_deployment_word(out: &mut String) -> Result<(), AllocError>
+    ensures { OnOk result (string_bytes out.new ≡ string_bytes out.old ++ deployment_word) }
+{
+    out.push_str("deployment ")?;
+    Ok(())
+}
+
+#[tactic(auto, unfolding(crate::specs::Text::faults_words))]
+fn put_faults(out: &mut String, header: &Header) -> Result<(), AllocError>
+    ensures { OnOk result (string_bytes out.new ≡ string_bytes out.old ++ faults_words header.now) }
+{
     let f = header.f;
     let clients = header.clients;
-    write!(out, "deployment {id} sites {sites}")?;
-    write!(out, " f {f} clients {clients}")?;
-    out.push_str("\n")?;
+    write!(out, " f {f} clients {clients}\n")?;
     Ok(())
 }
 
