@@ -2,6 +2,7 @@
 pub mod Keyed
 pub mod KeyedLaws
 pub mod KeyedSchemes
+pub mod KeyedSealers
 pub mod Pen
 pub mod Rising
 pub mod Scheme

@@ -36,7 +36,7 @@ pub struct KeyedSealer {
 impl KeyedSeals {
     ghost use Rattle.st_words.specs.declared.deployment.SealKind.TheVariants.{Keyed};
     ghost use Rattle.st_seal.specs.Scheme.{scheme_of};
-    ghost use Rattle.st_seal.specs.Pen.{Accepts};
+    ghost use Rattle.st_seal.specs.KeyedSealers.{pen_of};
 
     /// The keyed seals of a deployment's parties, of whatever kind its own seals are. Takes no memory.
     pub fn new(d: &Deployment) -> KeyedSeals
@@ -64,7 +64,7 @@ impl KeyedSeals {
     /// The sealer of a party of the deployment. Takes no memory.
     pub fn sealer(&self, who: Who) -> KeyedSealer
         requires { IsTrue (is_party (keyed_scheme self.now) who) }
-        ensures { ⟦<KeyedSealer as Sealer>⟧.pen result ≡ keyed_pen (keyed_scheme self.now) who }
+        ensures { pen_of result ≡ keyed_pen (keyed_scheme self.now) who }
     {
         KeyedSealer {
             seals: *self,
@@ -92,8 +92,9 @@ impl Check for KeyedSeals {
 
 impl Sealer for KeyedSealer {
     ghost use Rattle.st_seal.specs.KeyedLaws.{keyed_sound};
+    ghost use Rattle.st_seal.specs.KeyedSealers.{pen_of};
 
-    ghost pen = { λ s. keyed_pen (keyed_scheme s.seals) s.who };
+    ghost pen = { pen_of };
 
     ghost sound = { λ s. keyed_sound (keyed_scheme s.seals) s.who s.party };
 

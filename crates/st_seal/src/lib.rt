@@ -8,3 +8,6 @@ mod sealer;
 pub use keyed::{KeyedSealer, KeyedSeals};
 pub use quorum::{Quorum, Quorums, Signed};
 pub use sealer::{Check, SealError, Sealer};
+
+#[cfg(test)]
+mod tests;
