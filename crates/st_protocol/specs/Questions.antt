@@ -82,10 +82,19 @@ run_on serve run (v ∷ vs) = run_on serve (runs serve run v) vs
 abbrev pub no_run : Run
 no_run = record { last = λ c. 0; entries = []; ran = [] }
 
+-- whether running a value runs an update of the client
+abbrev pub runs_for : (ℕ → ℕ) → Value → ℕ → Bool
+runs_for last values.Noop c = false
+runs_for last (values.Update u) c = nat_eq u.client.0 c && nat_lt (last c) u.time
+
 -- The log after a change: number e+1 is executed.
 abbrev pub log_after : Change → Here → Log → Log
 log_after (Executed n p) here log =
-    record { run = runs here.seat.serve log.run p.value; proof = λ m. cond (nat_eq (here.executed + 1) m) (Some p) (log.proof m) }
+    record {
+      run = runs here.seat.serve log.run p.value;
+      place = λ c. cond (runs_for log.run.last p.value c) (here.executed + 1) (log.place c);
+      proof = λ m. cond (nat_eq (here.executed + 1) m) (Some p) (log.proof m);
+    }
 log_after _ here log = log
 
 abbrev pub words_after : Change → Here → KeptViews → KeptViews
@@ -183,7 +192,7 @@ making_notes here x making =
       vc = λ t. open_if (open_vc here t) (or_else (making.vc t) (sealing_in (at_vc t) x));
       report = λ t. open_if (open_term here t) (or_else (making.report t) (sealing_in (at_report t) x));
       union = λ t. open_if (open_term here t) (or_else (making.union t) (sealing_in (at_union t) x));
-      reply = λ c t. or_else (making.reply c t) (sealing_in (at_reply c t) x);
+      reply = λ n. or_else (making.reply n) (sealing_in (at_reply n) x);
     }
 
 abbrev pub unions_notes : Here → Change → (Term → ℕ → Option Held) → Term → ℕ → Option Held
@@ -318,8 +327,8 @@ nothing seat =
     record {
       here = fresh_here seat;
       slots = record { made = λ p. None; prepared = λ n. None; accepted = λ n. None; shares = λ p i. None };
-      making = record { vc = λ t. None; report = λ t. None; union = λ t. None; reply = λ c t. None };
-      log = record { run = no_run; proof = λ n. None };
+      making = record { vc = λ t. None; report = λ t. None; union = λ t. None; reply = λ n. None };
+      log = record { run = no_run; place = λ c. 0; proof = λ n. None };
       pending = λ c. None;
       votes = record { local = λ i. None; global = λ i. None; unions = λ t i. None; asked = λ s. None };
       unions = λ t s. None;

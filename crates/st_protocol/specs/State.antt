@@ -70,9 +70,9 @@ at_report t s = given (report_of s) false (same_term t)
 abbrev pub at_union : Term → Statement → Bool
 at_union t s = given (union_of s) false (same_term t)
 
-abbrev pub at_reply : ℕ → ℕ → Statement → Bool
-at_reply client time (Reply s c t n r) = nat_eq client c.0 && nat_eq time t
-at_reply client time _ = false
+abbrev pub at_reply : ℕ → Statement → Bool
+at_reply number (Reply s c t n r) = nat_eq number n.0
+at_reply number _ = false
 
 -- ---- the answers, grouped as the parts take them
 
@@ -120,8 +120,8 @@ pub record Making : Type 0 where
   pub vc : Term → Option Sealing
   pub report : Term → Option Sealing
   pub union : Term → Option Sealing
-  -- per client and time
-  pub reply : ℕ → ℕ → Option Sealing
+  -- per number: the Reply to the update that ran there
+  pub reply : ℕ → Option Sealing
 
 -- What running values leaves.
 pub record Run : Type 0 where
@@ -133,6 +133,8 @@ pub record Run : Type 0 where
 
 pub record Log : Type 0 where
   pub run : Run
+  -- per client: the number at which its last update ran, 0 at first
+  pub place : ℕ → ℕ
   -- per executed number
   pub proof : ℕ → Option Proof
 
