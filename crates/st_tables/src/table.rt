@@ -1,4 +1,4 @@
-ghost use Rattle.std.specs.Prelude.{◌≡◌, ℕ, ◌<◌, ◌≤◌, None, length, IfOk, IsOkUnless};
+ghost use Rattle.std.specs.Prelude.{◌≡◌, ℕ, ◌<◌, ◌≤◌, None, length, IfOk, OnOk, OnErr, IsOkUnless};
 ghost use Rattle.std.specs.Option.{option_copied};
 ghost use Rattle.st_fields.specs.declared.error.WordsError.TheVariants as words;
 ghost use Rattle.st_tables.specs.Entries.{entry, Sets};
@@ -67,6 +67,25 @@ impl<T: Drop> Table<T> {
         ensures size { length self.new ≡ length self.old }
     {
         self.entries.set(key, item);
+    }
+
+    /// Writes the entry of a key, and makes the table large enough for it. Where memory is refused each
+    /// entry is as before.
+    #[tactic(auto, using(crate::proofs::EntriesLaws::entry_of_more, crate::proofs::EntriesLaws::entry_of_last, crate::proofs::EntriesLaws::entry_of_others), unfolding(crate::specs::Entries::entry))]
+    pub fn put(&mut self, key: usize, item: Option<Shared<T>>) -> Result<(), WordsError>
+        ensures sets { OnOk result (Sets self.old self.new key item) }
+        ensures err { OnErr result ((k : ℕ) → entry self.new k ≡ entry self.old k) }
+        ensures memory { IsOkUnless result words.OutOfMemory }
+    {
+        if key < self.entries.len() {
+            self.entries.set(key, item);
+            return Ok(());
+        }
+        for _key in self.entries.len()..key {
+            self.entries.push(None)?;
+        }
+        self.entries.push(item)?;
+        Ok(())
     }
 }
 
