@@ -1,7 +1,5 @@
 -- The definitions that contracts cite.
 pub mod HereView
 pub mod Placed
+pub mod Writes
 pub mod SlotsView
-pub mod PendingView
-pub mod HandView
-pub mod OwnView

@@ -1,5 +1,5 @@
 -- Which changes and which messages a server's tables take: those of its present views and window.
-use Rattle.std.specs.Prelude.{ℕ, ◌+◌, Bool, true, false, nat_eq, nat_lt, nat_le, ◌&&◌, not}
+use Rattle.std.specs.Prelude.{ℕ, ◌+◌, Bool, true, false, nat_eq, nat_lt, nat_le, ◌&&◌, ◌||◌, not}
 use Rattle.st_words.specs.declared.statement.Statement.{Statement}
 use Rattle.st_words.specs.declared.statement.Statement.TheVariants.{Prepare, Proposal, Accept, Reply}
 use Rattle.st_message.specs.declared.change.Change.{Change}

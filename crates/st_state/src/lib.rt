@@ -3,12 +3,7 @@
 //! the questions of the duties, and each of its writes is one step of those answers.
 #![tactic(auto)]
 
-mod hand;
-mod own;
-mod pending;
+mod rings;
 mod slots;
 
-pub use hand::{Hand, HandSlot, Named};
-pub use own::Own;
-pub use pending::Pending;
 pub use slots::Slots;
