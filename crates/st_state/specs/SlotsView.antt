@@ -1,12 +1,12 @@
 -- The slots of the window, as the answers that they give.
-use Rattle.std.specs.Prelude.{ℕ, Bool, ◌&&◌, nat_eq, Option, Some, None, List}
-use Rattle.st_tables.specs.Entries.{entry}
+use Rattle.std.specs.Prelude.{ℕ, nat_eq, Option, None}
 use Rattle.st_tables.specs.Window.{kept}
 use Rattle.st_protocol.specs.Keeping.{open_if}
 use Rattle.st_protocol.specs.State as state
 use Rattle.st_protocol.specs.State.{Place, AtPrepare, AtProposal, AtAccept, Here, Sealing, Share}
 use Rattle.st_state.specs.declared.slots.Slots.{Slots}
 use Rattle.st_state.specs.Placed.{is_at}
+use Rattle.st_state.specs.Writes.{among}
 
 -- the statements made: of the present views alone
 abbrev pub made_at : Here → Slots → Place → Option Sealing
@@ -14,16 +14,11 @@ made_at here slots (AtPrepare g l n) = open_if (is_at here g l) (kept here.execu
 made_at here slots (AtProposal g l n) = open_if (is_at here g l) (kept here.executed slots.proposals n)
 made_at here slots (AtAccept g n) = open_if (nat_eq here.view g) (kept here.executed slots.accepts n)
 
--- a server's share among those of a slot
-abbrev pub share_among : Option (List (Option Share)) → ℕ → Option Share
-share_among None i = None
-share_among (Some shares) i = entry shares i
-
 -- the shares kept: of the present views alone
 abbrev pub shares_at : Here → Slots → Place → ℕ → Option Share
-shares_at here slots (AtPrepare g l n) i = open_if (is_at here g l) (share_among (kept here.executed slots.prepare_shares n) i)
-shares_at here slots (AtProposal g l n) i = open_if (is_at here g l) (share_among (kept here.executed slots.proposal_shares n) i)
-shares_at here slots (AtAccept g n) i = open_if (nat_eq here.view g) (share_among (kept here.executed slots.accept_shares n) i)
+shares_at here slots (AtPrepare g l n) i = open_if (is_at here g l) (among (kept here.executed slots.prepare_shares n) i)
+shares_at here slots (AtProposal g l n) i = open_if (is_at here g l) (among (kept here.executed slots.proposal_shares n) i)
+shares_at here slots (AtAccept g n) i = open_if (nat_eq here.view g) (among (kept here.executed slots.accept_shares n) i)
 
 unfoldable pub slots_of : Here → Slots → state.Slots
 slots_of here slots =
