@@ -1,2 +1,3 @@
 -- Lemmas.
 pub mod SlotsLaws
+pub mod SharesLaws

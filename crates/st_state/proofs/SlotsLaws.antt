@@ -20,7 +20,7 @@ use Rattle.st_state.specs.SlotsView.{slots_of, shares_at}
 -- ---- one entry
 
 -- nothing is kept of a number that isn't above the window's base
-kept_low : {A : Type 0} (e : ℕ) (xs : List (Option A)) (k : ℕ) → k ≤ e → kept e xs k ≡ None
+pub kept_low : {A : Type 0} (e : ℕ) (xs : List (Option A)) (k : ℕ) → k ≤ e → kept e xs k ≡ None
 unfolding kept
 kept_low e xs k low = grind (arith, low)
 
@@ -33,7 +33,7 @@ higher_alone : (x : Option Backed) → higher x None ≡ x
 higher_alone None = refl
 higher_alone (Some x) = refl
 
-or_else_alone : {A : Type 0} (x : Option A) → or_else x None ≡ x
+pub or_else_alone : {A : Type 0} (x : Option A) → or_else x None ≡ x
 or_else_alone None = refl
 or_else_alone (Some x) = refl
 
@@ -76,12 +76,12 @@ put_at_view view e g n k new old here x put above same low =
     by_test false eb whole = grind (arith, eb)
 
 -- what stays at the present views
-stays_at_views : {A : Type 0} (view local e g l k : ℕ) (old : Option A) → (k ≤ e → old ≡ None)
+pub stays_at_views : {A : Type 0} (view local e g l k : ℕ) (old : Option A) → (k ≤ e → old ≡ None)
     → open_if (nat_eq view g && nat_eq local l) old
     ≡ open_if (nat_le view g && nat_le local l && nat_lt e k) (or_else (open_if (nat_eq view g && nat_eq local l) old) None)
 stays_at_views view local e g l k old low = let alone = or_else_alone old in grind (arith, low, alone)
 
-stays_at_view : {A : Type 0} (view e g k : ℕ) (old : Option A) → (k ≤ e → old ≡ None)
+pub stays_at_view : {A : Type 0} (view e g k : ℕ) (old : Option A) → (k ≤ e → old ≡ None)
     → open_if (nat_eq view g) old ≡ open_if (nat_le view g && nat_lt e k) (or_else (open_if (nat_eq view g) old) None)
 stays_at_view view e g k old low = let alone = or_else_alone old in grind (arith, low, alone)
 

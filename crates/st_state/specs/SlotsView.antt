@@ -1,5 +1,9 @@
 -- The slots of the window, as the answers that they give.
-use Rattle.std.specs.Prelude.{ℕ, nat_eq, Option, None}
+use Rattle.std.specs.Prelude.{ℕ, false, nat_eq, Option, None}
+use Rattle.st_words.specs.declared.statement.Statement.{Statement}
+use Rattle.st_seal.specs.declared.quorum.Signed.{Signed}
+use Rattle.st_message.specs.declared.change.Heard.{Heard}
+use Rattle.st_message.specs.declared.message.Message.TheVariants as messages
 use Rattle.st_tables.specs.Window.{kept}
 use Rattle.st_protocol.specs.Keeping.{open_if}
 use Rattle.st_protocol.specs.State as state
@@ -32,3 +36,7 @@ slots_of here slots =
 -- no slot has anything
 abbrev pub no_slots : state.Slots
 no_slots = record { made = λ p. None; prepared = λ n. None; accepted = λ n. None; shares = λ p i. None }
+
+-- another server's share is heard
+abbrev pub heard_share : Statement → Signed → Heard
+heard_share s signed = record { own = false; message = messages.Share s signed }

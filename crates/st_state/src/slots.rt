@@ -11,11 +11,12 @@ ghost use Rattle.st_protocol.specs.State.{Here as At, AtPrepare, AtProposal, AtA
 ghost use Rattle.st_protocol.specs.Questions.{here_after, slots_notes, slots_cuts, slots_takes};
 ghost use Rattle.st_state.specs.HereView.{Serve, here_of};
 ghost use Rattle.st_state.specs.Placed.{is_placed};
-ghost use Rattle.st_state.specs.SlotsView.{slots_of, no_slots};
+ghost use Rattle.st_state.specs.SlotsView.{slots_of, no_slots, heard_share};
 
-use crate::rings::keep_first;
+use crate::rings::{keep_among, keep_first};
 use st_fields::{Copied, Shared, WordsError};
 use st_message::{Backed, Change, Here, Sealing, Share};
+use st_seal::Signed;
 use st_tables::{Ring, Table};
 use st_words::{Number, Statement};
 use std::alloc::Global;
@@ -123,6 +124,96 @@ impl Slots {
         Ok(())
     }
 
+    /// Keeps a server's share of a Prepare of the present views; of two of a slot the first stays, and
+    /// one of an executed number is dropped.
+    pub fn hear_prepare(
+        &mut self,
+        alloc: Global,
+        here: &Here,
+        number: Number,
+        statement: &Statement,
+        signed: &Signed,
+    ) -> Result<(), WordsError>
+        requires below { number.0 ≤ here.now.executed + 16 }
+        ensures ok { OnOk result ((clients : ℕ) (serve : Serve) (site : SiteId) (value : Value) → statement.now ≡ statements.Prepare site here.now.view here.now.local number value → let h = here_of clients serve here.now in slots_of h self.new ≡ slots_cuts h (slots_takes (heard_share statement.now signed.now) (slots_of h self.old))) }
+        ensures err { OnErr result (self.new ≡ self.old) }
+        ensures memory { IsOkUnless result words.OutOfMemory }
+    {
+        if number.0 <= here.executed {
+            return Ok(());
+        }
+        let share = copy_share(alloc, statement, signed)?;
+        keep_among(
+            alloc,
+            &mut self.prepare_shares,
+            here.executed,
+            number.0,
+            signed.index,
+            share,
+        )?;
+        Ok(())
+    }
+
+    /// Keeps a server's share of a Proposal of the present views; of two of a slot the first stays, and
+    /// one of an executed number is dropped.
+    pub fn hear_proposal(
+        &mut self,
+        alloc: Global,
+        here: &Here,
+        number: Number,
+        statement: &Statement,
+        signed: &Signed,
+    ) -> Result<(), WordsError>
+        requires below { number.0 ≤ here.now.executed + 16 }
+        ensures ok { OnOk result ((clients : ℕ) (serve : Serve) (site : SiteId) (value : Value) → statement.now ≡ statements.Proposal site here.now.view here.now.local number value → let h = here_of clients serve here.now in slots_of h self.new ≡ slots_cuts h (slots_takes (heard_share statement.now signed.now) (slots_of h self.old))) }
+        ensures err { OnErr result (self.new ≡ self.old) }
+        ensures memory { IsOkUnless result words.OutOfMemory }
+    {
+        if number.0 <= here.executed {
+            return Ok(());
+        }
+        let share = copy_share(alloc, statement, signed)?;
+        keep_among(
+            alloc,
+            &mut self.proposal_shares,
+            here.executed,
+            number.0,
+            signed.index,
+            share,
+        )?;
+        Ok(())
+    }
+
+    /// Keeps a server's share of a Accept of the present view; of two of a slot the first stays, and
+    /// one of an executed number is dropped.
+    pub fn hear_accept(
+        &mut self,
+        alloc: Global,
+        here: &Here,
+        number: Number,
+        statement: &Statement,
+        signed: &Signed,
+    ) -> Result<(), WordsError>
+        requires below { number.0 ≤ here.now.executed + 16 }
+        ensures ok { OnOk result ((clients : ℕ) (serve : Serve) (site : SiteId) (value : Value) → statement.now ≡ statements.Accept site here.now.view number value → let h = here_of clients serve here.now in slots_of h self.new ≡ slots_cuts h (slots_takes (heard_share statement.now signed.now) (slots_of h self.old))) }
+        ensures err { OnErr result (self.new ≡ self.old) }
+        ensures memory { IsOkUnless result words.OutOfMemory }
+    {
+        if number.0 <= here.executed {
+            return Ok(());
+        }
+        let share = copy_share(alloc, statement, signed)?;
+        keep_among(
+            alloc,
+            &mut self.accept_shares,
+            here.executed,
+            number.0,
+            signed.index,
+            share,
+        )?;
+        Ok(())
+    }
+
     /// Moves the window up by the number that is executed, of which all is dropped.
     pub fn move_up(&mut self, here: &Here)
         requires { here.now.executed < 2 ^ 32 - 1 }
@@ -150,4 +241,14 @@ fn share_sealing(
     let statement = statement.copy(alloc)?;
     let sealing = Shared::new(alloc, Sealing { leaf, statement })?;
     Ok(sealing)
+}
+
+fn copy_share(alloc: Global, statement: &Statement, signed: &Signed) -> Result<Share, WordsError>
+    ensures equal { IfOk result (λ share. share ≡ record { statement = statement.now; seal = signed.now.seal }) }
+    ensures memory { IsOkUnless result words.OutOfMemory }
+{
+    Ok(Share {
+        statement: statement.copy(alloc)?,
+        seal: signed.seal.copy(alloc)?,
+    })
 }
