@@ -4,10 +4,15 @@
 
 mod copied;
 mod error;
+mod reading;
 mod same;
 mod seq;
 
 pub use copied::Copied;
-pub use error::WordsError;
+pub use error::{FieldError, WordsError};
+pub use reading::{
+    read_above, read_byte, read_byte_in, read_bytes, read_mark, read_positive, read_text, read_u16, read_u16_in,
+    read_u32, read_u32_in, read_u64,
+};
 pub use same::Same;
 pub use seq::{Bytes, Seq};

@@ -1,0 +1,156 @@
+//! Readers of fields: each answers the value and the bytes after it, as the reading of the same name
+//! on lists does.
+
+ghost use Rattle.std.specs.Prelude.{◌≡◌, ◌<◌, ◌≤◌, ◌+◌, ◌^◌, length, IfOk};
+ghost use Rattle.std.specs.Int.{w16, w32, w64, IsInRange};
+ghost use Rattle.st_fields.specs.Reading.{Gives, byte_at, bytes_at, number_at, byte_in, number_in, number_above, positive_at, text_at, mark_at};
+
+use crate::error::FieldError;
+use crate::seq::{Bytes, Seq};
+use std::alloc::Global;
+
+/// A byte.
+#[tactic(auto, unfolding(crate::specs::Reading::byte_at))]
+pub fn read_byte(bytes: &[u8]) -> Result<(u8, &[u8]), FieldError>
+    ensures { Gives (λ x. (x.0, x.1.now)) result (byte_at bytes.now) }
+{
+    match bytes {
+        [] => Err(FieldError::Refused { left: 0 }),
+        [first, rest @ ..] => Ok((*first, rest)),
+    }
+}
+
+/// The next `count` bytes.
+#[tactic(auto, unfolding(crate::specs::Reading::bytes_at))]
+pub fn read_bytes(bytes: &[u8], count: usize) -> Result<(&[u8], &[u8]), FieldError>
+    ensures gives { Gives (λ x. (x.0.now, x.1.now)) result (bytes_at count bytes.now) }
+    ensures count { IfOk result (λ x. length x.0.now ≡ count) }
+{
+    if bytes.len() < count {
+        return Err(FieldError::Refused { left: bytes.len() });
+    }
+    Ok(bytes.split_at(count))
+}
+
+/// A number of two bytes.
+#[tactic(auto, unfolding(crate::specs::Reading::number_at))]
+pub fn read_u16(bytes: &[u8]) -> Result<(u16, &[u8]), FieldError>
+    ensures { Gives (λ x. (x.0, x.1.now)) result (number_at w16 bytes.now) }
+{
+    let (front, rest) = read_bytes(bytes, 2)?;
+    Ok((u16::from_be_bytes([front[0], front[1]]), rest))
+}
+
+/// A number of four bytes.
+#[tactic(auto, unfolding(crate::specs::Reading::number_at))]
+pub fn read_u32(bytes: &[u8]) -> Result<(u32, &[u8]), FieldError>
+    ensures { Gives (λ x. (x.0, x.1.now)) result (number_at w32 bytes.now) }
+{
+    let (front, rest) = read_bytes(bytes, 4)?;
+    let number = u32::from_be_bytes([front[0], front[1], front[2], front[3]]);
+    Ok((number, rest))
+}
+
+/// A number of eight bytes.
+#[tactic(auto, unfolding(crate::specs::Reading::number_at))]
+pub fn read_u64(bytes: &[u8]) -> Result<(u64, &[u8]), FieldError>
+    ensures { Gives (λ x. (x.0, x.1.now)) result (number_at w64 bytes.now) }
+{
+    let (front, rest) = read_bytes(bytes, 8)?;
+    let number = u64::from_be_bytes([
+        front[0], front[1], front[2], front[3], front[4], front[5], front[6], front[7],
+    ]);
+    Ok((number, rest))
+}
+
+/// A byte from `least` to `most`; none where `least` is 256.
+#[tactic(auto, unfolding(crate::specs::Reading::byte_in, crate::specs::Reading::checked))]
+pub fn read_byte_in(bytes: &[u8], least: u16, most: u8) -> Result<(u8, &[u8]), FieldError>
+    ensures gives { Gives (λ x. (x.0, x.1.now)) result (byte_in least most bytes.now) }
+    ensures within { IfOk result (λ x. IsInRange least most x.0) }
+{
+    let (byte, rest) = read_byte(bytes)?;
+    if least <= u16::from(byte) && byte <= most {
+        Ok((byte, rest))
+    } else {
+        Err(FieldError::Refused { left: bytes.len() })
+    }
+}
+
+/// A number of two bytes, from `least` to `most`.
+#[tactic(auto, unfolding(crate::specs::Reading::number_in, crate::specs::Reading::checked))]
+pub fn read_u16_in(bytes: &[u8], least: u16, most: u16) -> Result<(u16, &[u8]), FieldError>
+    ensures gives { Gives (λ x. (x.0, x.1.now)) result (number_in w16 least most bytes.now) }
+    ensures within { IfOk result (λ x. IsInRange least most x.0) }
+{
+    let (number, rest) = read_u16(bytes)?;
+    if least <= number && number <= most {
+        Ok((number, rest))
+    } else {
+        Err(FieldError::Refused { left: bytes.len() })
+    }
+}
+
+/// A number of four bytes, from `least` to `most`.
+#[tactic(auto, unfolding(crate::specs::Reading::number_in, crate::specs::Reading::checked))]
+pub fn read_u32_in(bytes: &[u8], least: u32, most: u32) -> Result<(u32, &[u8]), FieldError>
+    ensures gives { Gives (λ x. (x.0, x.1.now)) result (number_in w32 least most bytes.now) }
+    ensures within { IfOk result (λ x. IsInRange least most x.0) }
+{
+    let (number, rest) = read_u32(bytes)?;
+    if least <= number && number <= most {
+        Ok((number, rest))
+    } else {
+        Err(FieldError::Refused { left: bytes.len() })
+    }
+}
+
+/// A number of four bytes above `low`, and at most `most`.
+#[tactic(auto, unfolding(crate::specs::Reading::number_in, crate::specs::Reading::checked))]
+pub fn read_above(bytes: &[u8], low: u32, most: u32) -> Result<(u32, &[u8]), FieldError>
+    ensures gives { Gives (λ x. (x.0, x.1.now)) result (number_above w32 low most bytes.now) }
+    ensures within { IfOk result (λ x. (low < x.0) × (x.0 ≤ most)) }
+{
+    let (number, rest) = read_u32(bytes)?;
+    if low < number && number <= most {
+        Ok((number, rest))
+    } else {
+        Err(FieldError::Refused { left: bytes.len() })
+    }
+}
+
+/// A number of four bytes, at least 1.
+#[tactic(auto, unfolding(crate::specs::Reading::positive_at))]
+pub fn read_positive(bytes: &[u8]) -> Result<(u32, &[u8]), FieldError>
+    ensures gives { Gives (λ x. (x.0, x.1.now)) result (positive_at bytes.now) }
+    ensures within { IfOk result (λ x. 1 ≤ x.0) }
+{
+    read_above(bytes, 0, u32::MAX)
+}
+
+/// From `least` to `most` bytes, behind their number of two bytes.
+#[tactic(auto, unfolding(crate::specs::Reading::text_at))]
+pub fn read_text(
+    alloc: Global,
+    bytes: &[u8],
+    least: u16,
+    most: u16,
+) -> Result<(Bytes, &[u8]), FieldError>
+    ensures { Gives (λ x. (x.0, x.1.now)) result (text_at least most bytes.now) }
+{
+    let (count, rest) = read_u16_in(bytes, least, most)?;
+    let (text, rest) = read_bytes(rest, usize::from(count))?;
+    Ok((Seq::from_vec(Vec::from_slice(alloc, text)?), rest))
+}
+
+/// The bytes after `mark`, with which the bytes have to begin.
+#[tactic(auto, unfolding(crate::specs::Reading::mark_at))]
+pub fn read_mark<'a>(bytes: &'a [u8], mark: &[u8]) -> Result<&'a [u8], FieldError>
+    ensures { Gives (λ rest. (tt, rest.now)) result (mark_at mark.now bytes.now) }
+{
+    if bytes.starts_with(mark) {
+        Ok(&bytes[mark.len()..])
+    } else {
+        Err(FieldError::Refused { left: bytes.len() })
+    }
+}
