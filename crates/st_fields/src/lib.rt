@@ -3,12 +3,14 @@
 #![tactic(auto)]
 
 mod copied;
+mod each;
 mod error;
 mod reading;
 mod same;
 mod seq;
 
 pub use copied::Copied;
+pub use each::{ReadsEach, read_counted, read_list};
 pub use error::{FieldError, WordsError};
 pub use reading::{
     read_above, read_byte, read_byte_in, read_bytes, read_mark, read_positive, read_text, read_u16, read_u16_in,
