@@ -1,12 +1,15 @@
 //! Readers and writers of lists, once for all kinds of elements.
 
-ghost use Rattle.std.specs.Prelude.{◌≡◌, List, ℕ, ◌<◌, ◌≤◌, ◌++◌, length, All, OnOk, IfOk};
+ghost use Rattle.std.specs.Prelude.{◌≡◌, List, ℕ, ◌<◌, ◌≤◌, ◌++◌, ◌^◌, length, All, OnOk};
+ghost use Rattle.std.specs.List.{flat_map};
+ghost use Rattle.st_fields.specs.Spelling.{counted};
 ghost use Rattle.st_fields.specs.Reading.{Read, Gives, list_at, counted_at};
 
 use crate::error::FieldError;
 use crate::reading::read_byte_in;
 use crate::seq::Seq;
-use std::alloc::Global;
+use crate::writing::put_byte;
+use std::alloc::{AllocError, Global};
 
 /// Reads the elements of a list. What an element may be can hang on those before it: that is the
 /// reader's state.
@@ -58,4 +61,39 @@ pub fn read_counted<T: Drop, R: ReadsEach<T>>(
 {
     let (count, rest) = read_byte_in(bytes, u16::from(least), most)?;
     read_list(alloc, usize::from(count), reader, rest)
+}
+
+/// A value that has a spelling, where it keeps the ranges of its fields.
+pub trait Spelled {
+    ghost spelling: { Self → List ℕ };
+
+    ghost keeps: { Self → Type 0 };
+
+    /// Puts its spelling last.
+    fn put(&self, out: &mut Vec<u8>) -> Result<(), AllocError>
+        requires { keeps self.now }
+        ensures { OnOk result (out.new.items ≡ out.old.items ++ spelling self.now) };
+}
+
+/// The elements, one after another.
+pub fn put_list<T: Spelled>(out: &mut Vec<u8>, elements: &[T]) -> Result<(), AllocError>
+    requires { All T.keeps elements.now }
+    ensures { OnOk result (out.new.items ≡ out.old.items ++ flat_map T.spelling elements.now) }
+{
+    for element in elements {
+        element.put(out)?;
+    }
+    Ok(())
+}
+
+/// The elements behind their number of one byte.
+#[tactic(auto, unfolding(crate::specs::Spelling::counted))]
+pub fn put_counted<T: Spelled>(out: &mut Vec<u8>, elements: &[T]) -> Result<(), AllocError>
+    requires count { length elements.now < 2 ^ 8 }
+    requires each { All T.keeps elements.now }
+    ensures { OnOk result (out.new.items ≡ out.old.items ++ counted T.spelling elements.now) }
+{
+    put_byte(out, elements.len() as u8)?;
+    put_list(out, elements)?;
+    Ok(())
 }

@@ -8,9 +8,10 @@ mod error;
 mod reading;
 mod same;
 mod seq;
+mod writing;
 
 pub use copied::Copied;
-pub use each::{ReadsEach, read_counted, read_list};
+pub use each::{ReadsEach, Spelled, put_counted, put_list, read_counted, read_list};
 pub use error::{FieldError, WordsError};
 pub use reading::{
     read_above, read_byte, read_byte_in, read_bytes, read_mark, read_positive, read_text, read_u16, read_u16_in,
@@ -18,3 +19,4 @@ pub use reading::{
 };
 pub use same::Same;
 pub use seq::{Bytes, Seq};
+pub use writing::{put_byte, put_bytes, put_text, put_u16, put_u32, put_u64};
