@@ -80,9 +80,13 @@ abbrev pub placed : {A : Type 0} → ℕ → Result A ℕ → Result A ℕ
 placed total (Ok x) = Ok x
 placed total (Err left) = Err (total - left)
 
--- all of the bytes as one value, or the offset of the first fault
+-- the value of so many bytes, all of them, or the offset of the first fault
+abbrev pub all_read : {A : Type 0} → ℕ → Read A → Result A ℕ
+all_read total read = placed total (read >>= ended)
+
+-- all of the bytes as one value
 unfoldable pub whole : {A : Type 0} → (List ℕ → Read A) → List ℕ → Result A ℕ
-whole read bytes = placed (length bytes) (read bytes >>= ended)
+whole read bytes = all_read (length bytes) (read bytes)
 
 -- what the code refused is what reading refuses, unless memory was refused
 abbrev pub Fails : {A : Type 0} → FieldError → Result A ℕ → Type 0

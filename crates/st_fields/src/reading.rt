@@ -3,9 +3,9 @@
 
 ghost use Rattle.std.specs.Prelude.{◌≡◌, ◌<◌, ◌≤◌, ◌+◌, ◌^◌, length, IfOk};
 ghost use Rattle.std.specs.Int.{w16, w32, w64, IsInRange};
-ghost use Rattle.st_fields.specs.Reading.{Gives, byte_at, bytes_at, number_at, byte_in, number_in, number_above, positive_at, text_at, mark_at};
+ghost use Rattle.st_fields.specs.Reading.{Read, Gives, Answers, all_read, byte_at, bytes_at, number_at, byte_in, number_in, number_above, positive_at, text_at, mark_at};
 
-use crate::error::FieldError;
+use crate::error::{FieldError, WordsError};
 use crate::seq::{Bytes, Seq};
 use std::alloc::Global;
 
@@ -152,5 +152,21 @@ pub fn read_mark<'a>(bytes: &'a [u8], mark: &[u8]) -> Result<&'a [u8], FieldErro
         Ok(&bytes[mark.len()..])
     } else {
         Err(FieldError::Refused { left: bytes.len() })
+    }
+}
+
+/// What reading all of `bytes` answers, where `read` is what reading its front answered: bytes after
+/// the value are a fault, and a fault is placed by its offset.
+pub fn read_whole<T: Drop>(
+    bytes: &[u8],
+    read: Result<(T, &[u8]), FieldError>,
+) -> Result<T, WordsError>
+    ensures { (reading : Read T) → Gives (λ x. (x.0, x.1.now)) read.entry reading → Answers result (all_read (length bytes.now) reading) }
+{
+    match read {
+        Ok((value, rest)) if rest.is_empty() => Ok(value),
+        Ok((_, rest)) => Err(WordsError::Malformed { place: bytes.len().saturating_sub(rest.len()) }),
+        Err(FieldError::Refused { left }) => Err(WordsError::Malformed { place: bytes.len().saturating_sub(left) }),
+        Err(FieldError::OutOfMemory) => Err(WordsError::OutOfMemory),
     }
 }
