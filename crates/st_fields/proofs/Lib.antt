@@ -1,2 +1,6 @@
 -- Lemmas.
+pub mod Fields
+pub mod Leaves
+pub mod Lists
 pub mod Loop
+pub mod Wholes

@@ -23,3 +23,8 @@ text bytes = joined (number w16 (length bytes) ∷ bytes ∷ [])
 -- elements one after another behind their number, which takes one byte
 unfoldable pub counted : {A : Type 0} → (A → List ℕ) → List A → List ℕ
 counted spell xs = joined (byte (length xs) ∷ flat_map spell xs ∷ [])
+
+-- each element keeps the rule at the state that those before it leave
+abbrev pub KeepsEach : {A S : Type 0} → (S → A → Type 0) → (S → A → S) → S → List A → Type 0
+KeepsEach Keeps next state [] = Unit {0}
+KeepsEach Keeps next state (x ∷ xs) = Keeps state x × KeepsEach Keeps next (next state x) xs
