@@ -2,7 +2,8 @@
 -- bytes were left where the refused field begins.
 use Rattle.std.specs.Prelude.{◌≡◌, ℕ, zero, suc, ◌+◌, ◌-◌, ◌^◌, List, [], ◌∷◌, length, take, drop, Bool, Result, Ok, Err, nat_eq, nat_lt, ◌==◌, if◌then◌else◌}
 use Rattle.std.specs.Int.{Width, w16, w32, byte_len, from_be_bytes, is_in_range}
-use Rattle.std.specs.List.{starts_with}
+use Rattle.std.specs.List.{starts_with, find}
+use Rattle.std.specs.Option.{ok_or, option_map}
 use Rattle.st_fields.specs.declared.error.WordsError.{WordsError}
 use Rattle.st_fields.specs.declared.error.WordsError.TheVariants as words
 use Rattle.st_fields.specs.declared.error.FieldError.{FieldError}
@@ -50,6 +51,10 @@ number_above w low most = number_in w (low + 1) most
 -- a number of four bytes, at least 1
 unfoldable pub positive_at : List ℕ → Read ℕ
 positive_at = number_above w32 0 (2 ^ 32 - 1)
+
+-- one of these kinds, by its number of one byte
+unfoldable pub kind_at : {K : Type 0} → (K → ℕ) → List K → List ℕ → Read K
+kind_at number_of kinds bytes = byte_at bytes >>= λ n rest. ok_or (option_map (λ kind. (kind, rest)) (find (λ kind. number_of kind == n) kinds)) (length bytes)
 
 -- from least to most bytes, behind their number
 unfoldable pub text_at : ℕ → ℕ → List ℕ → Read (List ℕ)

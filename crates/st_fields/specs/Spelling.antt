@@ -1,7 +1,7 @@
 -- How fields are spelled, one after another.
-use Rattle.std.specs.Prelude.{ℕ, List, [], ◌∷◌, ◌++◌, length}
+use Rattle.std.specs.Prelude.{ℕ, List, [], ◌∷◌, ◌++◌, length, Bool, ◌==◌}
 use Rattle.std.specs.Int.{Width, w16, to_be_bytes}
-use Rattle.std.specs.List.{flat_map}
+use Rattle.std.specs.List.{flat_map, list_any}
 
 -- fields one after another
 abbrev pub joined : List (List ℕ) → List ℕ
@@ -28,3 +28,7 @@ counted spell xs = joined (byte (length xs) ∷ flat_map spell xs ∷ [])
 abbrev pub KeepsEach : {A S : Type 0} → (S → A → Type 0) → (S → A → S) → S → List A → Type 0
 KeepsEach Keeps next state [] = Unit {0}
 KeepsEach Keeps next state (x ∷ xs) = Keeps state x × KeepsEach Keeps next (next state x) xs
+
+-- whether a kind is among these, by its number
+abbrev pub is_among : {K : Type 0} → (K → ℕ) → List K → K → Bool
+is_among number_of kinds kind = list_any (λ other. number_of other == number_of kind) kinds
