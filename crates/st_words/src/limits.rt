@@ -1,0 +1,30 @@
+//! What may stand in a list of items, and in a list of reports.
+
+/// What the next item of a list may be.
+#[derive(Clone, Copy, Debug, PartialEq, Eq)]
+pub struct ItemLimits {
+    /// Its number is above this.
+    pub after: u32,
+    /// Its number is at most this.
+    pub most: u32,
+    /// Its view is at most this.
+    pub most_view: u32,
+    /// Its local view is at most this.
+    pub most_local: u32,
+}
+
+/// Which report may stand here. In a list of reports the first one narrows it.
+#[derive(Clone, Copy, Debug, PartialEq, Eq)]
+pub struct ReportBounds {
+    /// Whether it may be a LocalReport.
+    pub local: bool,
+    /// Whether it may be a GlobalReport.
+    pub global: bool,
+    pub least_site: u8,
+    pub most_site: u8,
+    /// The local view, or the view, that was entered is above this.
+    pub after_view: u32,
+    pub most_view: u32,
+    /// 256 where no index is left.
+    pub least_index: u16,
+}
