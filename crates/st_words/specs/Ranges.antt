@@ -53,8 +53,8 @@ KeepsItems limits items = (length items ≤ most_items) × KeepsEach KeepsItem a
 abbrev pub limits_above : ℕ → ℕ → ℕ → ItemLimits
 limits_above base most_view most_local = record { after = base; most = base + most_items; most_view = most_view; most_local = most_local }
 
--- a report's, a union's: an item of a local one is of no later view, and of an earlier local view;
--- an item of a global one is of an earlier view
+-- what a party says: an item of a local report or union is of no later view, one of a local report
+-- of an earlier local view too, and one of a global report or union is of an earlier view
 abbrev pub KeepsStatement : Statement → Type 0
 KeepsStatement (Prepare site view local n v) = (1 ≤ n.0) × KeepsValue v
 KeepsStatement (Proposal site view local n v) = (1 ≤ n.0) × KeepsValue v

@@ -165,8 +165,8 @@ core_at among bytes = kind_at kind_number among bytes >>= λ kind rest. fields_a
 unfoldable pub report_at : ReportBounds → List ℕ → Read Statement
 report_at bounds bytes =
   byte_at bytes >>= λ kind rest.
-  if bounds.local && (kind == 6) then local_report_at bounds rest else
-  if bounds.global && (kind == 7) then global_report_at bounds rest else
+  if bounds.local && (kind == kind_number kinds.LocalReport) then local_report_at bounds rest else
+  if bounds.global && (kind == kind_number kinds.GlobalReport) then global_report_at bounds rest else
   Err (length bytes)
 
 abbrev pub all_kinds : List StatementKind

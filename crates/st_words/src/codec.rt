@@ -1,7 +1,12 @@
 //! The bytes of the protocol's words, both ways.
 
+mod fields;
 mod item;
+mod report;
+mod statement;
 mod value;
 
 pub use item::{put_items, read_items};
+pub use report::read_report;
+pub use statement::read_core;
 pub use value::{put_update, put_value, read_update, read_value};

@@ -4,6 +4,7 @@ ghost use Rattle.std.specs.Prelude.{◌≡◌};
 ghost use Rattle.st_words.specs.Kind.{kind_number, kind_of};
 
 use crate::statement::Statement;
+use st_fields::Numbered;
 
 /// What a statement says, apart from its fields.
 #[derive(Clone, Copy, Debug, PartialEq, Eq)]
@@ -21,11 +22,10 @@ pub enum StatementKind {
     ClientUpdate = 11,
 }
 
-impl StatementKind {
-    /// Its number in the bytes of a statement.
-    pub fn number(self) -> u8
-        ensures { result ≡ kind_number self }
-    {
+impl Numbered for StatementKind {
+    ghost number_of = { kind_number };
+
+    fn number(self) -> u8 {
         self as u8
     }
 }

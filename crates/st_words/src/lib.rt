@@ -9,7 +9,9 @@ mod limits;
 mod statement;
 mod value;
 
-pub use codec::{put_items, put_update, put_value, read_items, read_update, read_value};
+pub use codec::{
+    put_items, put_update, put_value, read_core, read_items, read_report, read_update, read_value,
+};
 pub use deployment::{Deployment, LAST_NUMBER, MOST_VIEW, SealKind, ServiceKind, WINDOW};
 pub use ids::{ClientId, LocalView, Number, ServerId, Servers, SiteId, View, Who};
 pub use kind::StatementKind;

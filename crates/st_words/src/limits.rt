@@ -1,5 +1,7 @@
 //! What may stand in a list of items, and in a list of reports.
 
+ghost use Rattle.std.specs.Prelude.{◌≡◌};
+
 /// What the next item of a list may be.
 #[derive(Clone, Copy, Debug, PartialEq, Eq)]
 pub struct ItemLimits {
@@ -27,4 +29,23 @@ pub struct ReportBounds {
     pub most_view: u32,
     /// 256 where no index is left.
     pub least_index: u16,
+}
+
+impl ReportBounds {
+    ghost use Rattle.st_words.specs.Reading.{any_report};
+
+    /// Every report.
+    pub fn any() -> ReportBounds
+        ensures { result ≡ any_report }
+    {
+        ReportBounds {
+            local: true,
+            global: true,
+            least_site: 0,
+            most_site: u8::MAX,
+            after_view: 0,
+            most_view: u32::MAX,
+            least_index: 0,
+        }
+    }
 }

@@ -2,7 +2,7 @@
 
 ghost use Rattle.std.specs.Prelude.{◌≡◌, ◌++◌, ◌≤◌, OnOk, length, All};
 ghost use Rattle.st_fields.specs.Reading.{Gives};
-ghost use Rattle.st_words.specs.Ranges.{KeepsValue, KeepsItems, after_item};
+ghost use Rattle.st_words.specs.Ranges.{KeepsValue, after_item, limits_above};
 ghost use Rattle.st_words.specs.Spelling.{item_spelling, items_spelling};
 ghost use Rattle.st_words.specs.Reading.{item_at, items_at};
 
@@ -99,4 +99,20 @@ pub fn put_items(out: &mut Vec<u8>, items: &Items) -> Result<(), AllocError>
 {
     put_counted(out, items.as_slice())?;
     Ok(())
+}
+
+/// The greatest base: every number above it that an item may have is one of four bytes.
+pub const MOST_BASE: u32 = u32::MAX - 16;
+
+/// The limits of the first item of a list above `base`.
+pub fn limits_above(base: u32, most_view: u32, most_local: u32) -> ItemLimits
+    requires { base ≤ 4294967279 }
+    ensures { result ≡ limits_above base most_view most_local }
+{
+    ItemLimits {
+        after: base,
+        most: base + u32::from(MOST_ITEMS),
+        most_view,
+        most_local,
+    }
 }
