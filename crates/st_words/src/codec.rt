@@ -2,6 +2,7 @@
 
 mod fields;
 mod item;
+mod put_fields;
 mod report;
 mod statement;
 mod value;
