@@ -9,5 +9,5 @@ mod value;
 
 pub use item::{put_items, read_items};
 pub use report::read_report;
-pub use statement::read_core;
+pub use statement::{put_core, read_core, statement_bytes};
 pub use value::{put_update, put_value, read_update, read_value};

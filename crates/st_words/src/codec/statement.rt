@@ -1,24 +1,41 @@
 //! The bytes of statements.
 
-ghost use Rattle.std.specs.Prelude.{◌≡◌, ◌++◌, OnOk};
-ghost use Rattle.st_fields.specs.Reading.{Gives};
-ghost use Rattle.st_words.specs.Kind.{kind_number};
+ghost use Rattle.std.specs.Prelude.{◌≡◌, ◌++◌, OnOk, IfOk, IsOkUnless};
+ghost use Rattle.st_fields.specs.declared.error.WordsError.TheVariants as words;
+ghost use Rattle.st_fields.specs.Reading.{Gives, Answers, whole};
 ghost use Rattle.st_words.specs.Ranges.{KeepsStatement};
-ghost use Rattle.st_words.specs.Spelling.{core_spelling, fields_spelling};
-ghost use Rattle.st_words.specs.Reading.{fields_at, core_at};
+ghost use Rattle.st_words.specs.Spelling.{core_spelling, statement_spelling};
+ghost use Rattle.st_words.specs.Reading.{fields_at, core_at, statement_at};
 
 use crate::codec::fields::{
     read_accept, read_client_update, read_global_union, read_global_vc, read_local_union,
     read_local_vc, read_prepare, read_proposal, read_reply,
 };
-use crate::codec::item::put_items;
+use crate::codec::put_fields::put_fields;
 use crate::codec::report::{read_global_report, read_local_report};
-use crate::codec::value::{put_update, put_value};
 use crate::kind::StatementKind;
 use crate::limits::ReportBounds;
 use crate::statement::Statement;
-use st_fields::{FieldError, put_byte, put_text, put_u32, read_kind};
+use st_fields::{
+    Bytes, FieldError, Numbered, Seq, WordsError, put_byte, put_bytes, put_u64, read_kind, read_mark, read_u64, read_whole,
+};
 use std::alloc::{AllocError, Global};
+
+const STATEMENT_MARK: [u8; 8] = *b"STEWARD1";
+
+const ALL_KINDS: [StatementKind; 11] = [
+    StatementKind::Prepare,
+    StatementKind::Proposal,
+    StatementKind::Accept,
+    StatementKind::LocalVc,
+    StatementKind::GlobalVc,
+    StatementKind::LocalReport,
+    StatementKind::GlobalReport,
+    StatementKind::LocalUnion,
+    StatementKind::GlobalUnion,
+    StatementKind::Reply,
+    StatementKind::ClientUpdate,
+];
 
 fn read_fields(
     alloc: Global,
@@ -53,4 +70,54 @@ pub fn read_core<'a>(
 {
     let (kind, rest) = read_kind(bytes, kinds)?;
     read_fields(alloc, kind, rest)
+}
+
+/// The core of a statement. Where memory is refused, a part of it may stand in `out`.
+#[tactic(auto, unfolding(crate::specs::Spelling::core_spelling))]
+pub fn put_core(out: &mut Vec<u8>, statement: &Statement) -> Result<(), AllocError>
+    requires { KeepsStatement statement.now }
+    ensures { OnOk result (out.new.items ≡ out.old.items ++ core_spelling statement.now) }
+{
+    put_byte(out, statement.kind().number())?;
+    put_fields(out, statement)?;
+    Ok(())
+}
+
+#[tactic(auto, unfolding(crate::specs::Spelling::statement_spelling))]
+fn put_statement(out: &mut Vec<u8>, id: u64, statement: &Statement) -> Result<(), AllocError>
+    requires { KeepsStatement statement.now }
+    ensures { OnOk result (out.new.items ≡ out.old.items ++ statement_spelling id statement.now) }
+{
+    put_bytes(out, &STATEMENT_MARK)?;
+    put_u64(out, id)?;
+    put_core(out, statement)?;
+    Ok(())
+}
+
+/// The bytes that a party of the deployment `id` seals.
+pub fn statement_bytes(alloc: Global, id: u64, statement: &Statement) -> Result<Bytes, WordsError>
+    requires { KeepsStatement statement.now }
+    ensures spelled { IfOk result (λ bytes. bytes ≡ statement_spelling id statement.now) }
+    ensures memory { IsOkUnless result words.OutOfMemory }
+{
+    let mut out = Vec::new(alloc);
+    put_statement(&mut out, id, statement)?;
+    Ok(Seq::from_vec(out))
+}
+
+#[tactic(auto, unfolding(crate::specs::Reading::statement_at))]
+fn read_front(alloc: Global, bytes: &[u8]) -> Result<((u64, Statement), &[u8]), FieldError>
+    ensures { Gives (λ x. (x.0, x.1.now)) result (statement_at bytes.now) }
+{
+    let rest = read_mark(bytes, &STATEMENT_MARK)?;
+    let (id, rest) = read_u64(rest)?;
+    let (statement, rest) = read_core(alloc, &ALL_KINDS, rest)?;
+    Ok(((id, statement), rest))
+}
+
+#[tactic(auto, unfolding(st_fields::specs::Reading::whole))]
+fn read_all(alloc: Global, bytes: &[u8]) -> Result<(u64, Statement), WordsError>
+    ensures { Answers result (whole statement_at bytes.now) }
+{
+    read_whole(bytes, read_front(alloc, bytes))
 }
