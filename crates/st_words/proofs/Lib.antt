@@ -1,2 +1,3 @@
 -- Lemmas.
+pub mod Fields
 pub mod Kept
