@@ -1,3 +1,4 @@
 -- Lemmas.
 pub mod Fields
 pub mod Kept
+pub mod Statements

@@ -68,6 +68,12 @@ KeepsStatement (GlobalUnion site view base items) = (1 ≤ view.0) × (base ≤ 
 KeepsStatement (Reply site client time n outcome) = (1 ≤ time) × (1 ≤ n.0) × (length outcome ≤ most_text)
 KeepsStatement (ClientUpdate update) = KeepsUpdate update
 
+-- a report that may stand within the bounds
+abbrev pub KeepsBounds : ReportBounds → Statement → Type 0
+KeepsBounds b (LocalReport site local index view base items) = IsTrue b.local × IsInRange b.least_site b.most_site site.0 × (b.after_view < local.0) × (local.0 ≤ b.most_view) × (b.least_index ≤ index)
+KeepsBounds b (GlobalReport site view index base items) = IsTrue b.global × IsInRange b.least_site b.most_site site.0 × (b.after_view < view.0) × (view.0 ≤ b.most_view) × (b.least_index ≤ index)
+KeepsBounds b _ = ⊥
+
 -- ---- what the code's types keep
 
 abbrev pub FitsUpdate : Update → Type 0
