@@ -38,6 +38,11 @@ pub guard_ok : {A : Type 0} (b : Bool) (x y : A) (left : ℕ) → cond b (Ok x) 
 guard_ok true x y left e = (refl, ok_is x y e)
 guard_ok false x y left e = absurd cc
 
+-- a test that was passed, before more is read
+pub guard_read : {A : Type 0} (b : Bool) (read : Result A ℕ) (y : A) (left : ℕ) → cond b read (Err left) ≡ Ok y → (b ≡ true) × (read ≡ Ok y)
+guard_read true read y left e = (refl, e)
+guard_read false read y left e = absurd cc
+
 -- a test that would have refused
 pub short_ok : {A : Type 0} (b : Bool) (x y : A) (left : ℕ) → cond b (Err left) (Ok x) ≡ done y → (b ≡ false) × (x ≡ y)
 short_ok true x y left e = absurd cc

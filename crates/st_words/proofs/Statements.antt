@@ -23,7 +23,7 @@ abbrev pub IsKind : StatementKind → Statement → Type 0
 IsKind kind s = (kind_of s ≡ kind) × (KeepsStatement s × FitsStatement s)
 
 -- the fields of such a statement were taken
-abbrev IsRead : StatementKind → List ℕ → Statement × List ℕ → Type 0
+abbrev pub IsRead : StatementKind → List ℕ → Statement × List ℕ → Type 0
 IsRead kind bytes p = Takes bytes (fields_spelling p.0) p.1 × IsKind kind p.0
 
 -- ---- what is read is spelled so
@@ -74,7 +74,7 @@ global_vc_takes bytes s rest fits e =
     step positive_field r0 (s, rest) t0.rest_fits e0 λ view r1 t1 k1 e1.
     subst (IsRead kinds.GlobalVc bytes) (ok_is _ (s, rest) e1) (t0 ▷ (t1 ▷ none t1.rest_fits), (refl, (k1.1, (k0, k1.0))))
 
-local_report_takes : (bounds : ReportBounds) → IsTrue bounds.local → (bytes : List ℕ) (s : Statement) (rest : List ℕ) → IsBytes bytes → local_report_at bounds bytes ≡ Ok (s, rest) → IsRead kinds.LocalReport bytes (s, rest) × KeepsBounds bounds s
+pub local_report_takes : (bounds : ReportBounds) → IsTrue bounds.local → (bytes : List ℕ) (s : Statement) (rest : List ℕ) → IsBytes bytes → local_report_at bounds bytes ≡ Ok (s, rest) → IsRead kinds.LocalReport bytes (s, rest) × KeepsBounds bounds s
 unfolding local_report_at fields_spelling
 local_report_takes bounds allowed bytes s rest fits e =
     step (byte_in_field bounds.least_site bounds.most_site) bytes (s, rest) fits e λ site r0 t0 k0 e0.
@@ -87,7 +87,7 @@ local_report_takes bounds allowed bytes s rest fits e =
       ((t0 ▷ (t1 ▷ (t2 ▷ (t3 ▷ (t4 ▷ (t5 ▷ none t5.rest_fits))))), (refl, ((omega arith, k4.1.1, k5.0), (k0.0, k1.0, k2.0, k3, k4.0, k5.1)))),
        (allowed, k0.1, k1.1, k1.2, k2.1.0))
 
-global_report_takes : (bounds : ReportBounds) → IsTrue bounds.global → (bytes : List ℕ) (s : Statement) (rest : List ℕ) → IsBytes bytes → global_report_at bounds bytes ≡ Ok (s, rest) → IsRead kinds.GlobalReport bytes (s, rest) × KeepsBounds bounds s
+pub global_report_takes : (bounds : ReportBounds) → IsTrue bounds.global → (bytes : List ℕ) (s : Statement) (rest : List ℕ) → IsBytes bytes → global_report_at bounds bytes ≡ Ok (s, rest) → IsRead kinds.GlobalReport bytes (s, rest) × KeepsBounds bounds s
 unfolding global_report_at fields_spelling
 global_report_takes bounds allowed bytes s rest fits e =
     step (byte_in_field bounds.least_site bounds.most_site) bytes (s, rest) fits e λ site r0 t0 k0 e0.
@@ -153,7 +153,7 @@ fields_takes kinds.ClientUpdate bytes s rest fits e = client_update_takes bytes 
 
 -- ---- what is spelled so is read
 
-local_report_again : (bounds : ReportBounds) (s : Statement) (rest : List ℕ) → KeepsBounds bounds s → IsKind kinds.LocalReport s → local_report_at bounds (fields_spelling s ++ rest) ≡ Ok (s, rest)
+pub local_report_again : (bounds : ReportBounds) (s : Statement) (rest : List ℕ) → KeepsBounds bounds s → IsKind kinds.LocalReport s → local_report_at bounds (fields_spelling s ++ rest) ≡ Ok (s, rest)
 unfolding local_report_at fields_spelling
 local_report_again bounds (LocalReport site local index view base items) rest b (is, (k, f)) =
     ap (local_report_at bounds) (joined-append (byte site.0 ∷ number w32 local.0 ∷ byte index ∷ number w32 view.0 ∷ number w32 base ∷ items_spelling items ∷ []) rest)
@@ -165,7 +165,7 @@ local_report_again bounds (LocalReport site local index view base items) rest b 
       (again_step (items_field (limits_above base view.0 (local.0 - 1))) _ _ items (k.2, f.5) refl))))))
 local_report_again bounds _ rest b (is, (k, f)) = absurd cc
 
-global_report_again : (bounds : ReportBounds) (s : Statement) (rest : List ℕ) → KeepsBounds bounds s → IsKind kinds.GlobalReport s → global_report_at bounds (fields_spelling s ++ rest) ≡ Ok (s, rest)
+pub global_report_again : (bounds : ReportBounds) (s : Statement) (rest : List ℕ) → KeepsBounds bounds s → IsKind kinds.GlobalReport s → global_report_at bounds (fields_spelling s ++ rest) ≡ Ok (s, rest)
 unfolding global_report_at fields_spelling
 global_report_again bounds (GlobalReport site view index base items) rest b (is, (k, f)) =
     ap (global_report_at bounds) (joined-append (byte site.0 ∷ number w32 view.0 ∷ byte index ∷ number w32 base ∷ items_spelling items ∷ []) rest)

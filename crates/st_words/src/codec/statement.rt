@@ -1,9 +1,10 @@
 //! The bytes of statements.
 
-ghost use Rattle.std.specs.Prelude.{◌≡◌, ◌++◌, OnOk, IfOk, IsOkUnless};
+ghost use Rattle.std.specs.Prelude.{◌≡◌, ◌++◌, ◌<◌, ◌^◌, [], ℕ, List, OnOk, IfOk, IsOkUnless};
 ghost use Rattle.st_fields.specs.declared.error.WordsError.TheVariants as words;
 ghost use Rattle.st_fields.specs.Reading.{Gives, Answers, whole};
-ghost use Rattle.st_words.specs.Ranges.{KeepsStatement};
+ghost use Rattle.st_words.specs.declared.statement.Statement.{Statement};
+ghost use Rattle.st_words.specs.Ranges.{KeepsStatement, FitsStatement};
 ghost use Rattle.st_words.specs.Spelling.{core_spelling, statement_spelling};
 ghost use Rattle.st_words.specs.Reading.{fields_at, core_at, statement_at};
 
@@ -120,4 +121,30 @@ fn read_all(alloc: Global, bytes: &[u8]) -> Result<(u64, Statement), WordsError>
     ensures { Answers result (whole statement_at bytes.now) }
 {
     read_whole(bytes, read_front(alloc, bytes))
+}
+
+/// The statement whose bytes these are, and the id of its deployment. Malformed where the bytes are
+/// no statement's: `place` is the offset of the first field that is missing, cut short or out of its
+/// range, or the end of the statement where bytes follow it.
+pub fn read_statement(alloc: Global, bytes: &[u8]) -> Result<(u64, Statement), WordsError>
+    // What is read is spelled so, each byte of it.
+    ensures found { IfOk result (λ x. (bytes.now ≡ statement_spelling x.0 x.1) × KeepsStatement x.1 × FitsStatement x.1) }
+    // What is spelled so is read, unless memory is refused.
+    ensures only { (id : ℕ) (s : Statement) → id < 2 ^ 64 → KeepsStatement s → FitsStatement s → bytes.now ≡ statement_spelling id s → Answers result (Ok (id, s)) }
+    // Which fault it is.
+    ensures exact { Answers result (whole statement_at bytes.now) }
+{
+    read_all(alloc, bytes)
+}
+
+/// No statement's bytes are a proper front of another's, or of its own with more behind them.
+pub fn no_proper_prefix()
+    ensures { (i j : ℕ) (s t : Statement) (rest : List ℕ) → i < 2 ^ 64 → j < 2 ^ 64 → KeepsStatement s → FitsStatement s → KeepsStatement t → FitsStatement t → statement_spelling i s ++ rest ≡ statement_spelling j t → (i ≡ j) × (s ≡ t) × (rest ≡ []) }
+{
+}
+
+/// Two statements, or one statement of two deployments, have different bytes.
+pub fn one_statement()
+    ensures { (i j : ℕ) (s t : Statement) → i < 2 ^ 64 → j < 2 ^ 64 → KeepsStatement s → FitsStatement s → KeepsStatement t → FitsStatement t → statement_spelling i s ≡ statement_spelling j t → (i ≡ j) × (s ≡ t) }
+{
 }
