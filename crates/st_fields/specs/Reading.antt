@@ -108,3 +108,8 @@ abbrev pub Answers : {A : Type 0} → Result A WordsError → Result A ℕ → T
 Answers (Ok x) read = read ≡ Ok x
 Answers (Err (words.Malformed place)) read = read ≡ Err place
 Answers (Err words.OutOfMemory) read = Unit {0}
+
+-- a field was refused: what a reader that takes no memory fails by
+abbrev pub IsRefused : FieldError → Type 0
+IsRefused (fields.Refused left) = Unit {0}
+IsRefused fields.OutOfMemory = ⊥

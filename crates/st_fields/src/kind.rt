@@ -1,7 +1,7 @@
 //! Kinds that stand as a number of one byte.
 
-ghost use Rattle.std.specs.Prelude.{◌≡◌, ◌==◌, ℕ, find};
-ghost use Rattle.st_fields.specs.Reading.{Gives, kind_at};
+ghost use Rattle.std.specs.Prelude.{◌≡◌, ◌==◌, ℕ, find, IfErr};
+ghost use Rattle.st_fields.specs.Reading.{Gives, IsRefused, kind_at};
 
 use crate::error::FieldError;
 use crate::reading::read_byte;
@@ -24,7 +24,8 @@ fn kind_of_number<K: Numbered>(kinds: &[K], number: u8) -> Option<K>
 /// One of `kinds`, by its number.
 #[tactic(auto, unfolding(crate::specs::Reading::kind_at))]
 pub fn read_kind<'a, K: Numbered>(bytes: &'a [u8], kinds: &[K]) -> Result<(K, &'a [u8]), FieldError>
-    ensures { Gives (λ x. (x.0, x.1.now)) result (kind_at K.number_of kinds.now bytes.now) }
+    ensures gives { Gives (λ x. (x.0, x.1.now)) result (kind_at K.number_of kinds.now bytes.now) }
+    ensures free { IfErr result IsRefused }
 {
     let (number, rest) = read_byte(bytes)?;
     match kind_of_number(kinds, number) {

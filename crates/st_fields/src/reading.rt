@@ -1,9 +1,11 @@
-//! Readers of fields: each answers the value and the bytes after it, as the reading of the same name
-//! on lists does.
+//! Readers of fields: each answers the value and the bytes after it, as the reading that its contract
+//! names does on lists, or how many bytes were left where the refused field begins.
 
-ghost use Rattle.std.specs.Prelude.{◌≡◌, ◌<◌, ◌≤◌, ◌+◌, ◌^◌, length, IfOk};
+ghost use Rattle.std.specs.Prelude.{◌≡◌, ◌<◌, ◌≤◌, ◌+◌, ◌^◌, length, IfOk, IfErr};
 ghost use Rattle.std.specs.Int.{w16, w32, w64, IsInRange};
-ghost use Rattle.st_fields.specs.Reading.{Read, Gives, Answers, all_read, byte_at, bytes_at, number_at, byte_in, number_in, number_above, positive_at, text_at, mark_at};
+ghost use Rattle.st_fields.specs.declared.error.WordsError.TheVariants as words;
+ghost use Rattle.st_fields.specs.declared.error.FieldError.TheVariants as fields;
+ghost use Rattle.st_fields.specs.Reading.{Read, Gives, IsRefused, Answers, all_read, byte_at, bytes_at, number_at, byte_in, number_in, number_above, positive_at, text_at, mark_at};
 
 use crate::error::{FieldError, WordsError};
 use crate::seq::{Bytes, Seq};
@@ -12,7 +14,8 @@ use std::alloc::Global;
 /// A byte.
 #[tactic(auto, unfolding(crate::specs::Reading::byte_at))]
 pub fn read_byte(bytes: &[u8]) -> Result<(u8, &[u8]), FieldError>
-    ensures { Gives (λ x. (x.0, x.1.now)) result (byte_at bytes.now) }
+    ensures gives { Gives (λ x. (x.0, x.1.now)) result (byte_at bytes.now) }
+    ensures free { IfErr result IsRefused }
 {
     match bytes {
         [] => Err(FieldError::Refused { left: 0 }),
@@ -25,6 +28,7 @@ pub fn read_byte(bytes: &[u8]) -> Result<(u8, &[u8]), FieldError>
 pub fn read_bytes(bytes: &[u8], count: usize) -> Result<(&[u8], &[u8]), FieldError>
     ensures gives { Gives (λ x. (x.0.now, x.1.now)) result (bytes_at count bytes.now) }
     ensures count { IfOk result (λ x. length x.0.now ≡ count) }
+    ensures free { IfErr result IsRefused }
 {
     if bytes.len() < count {
         return Err(FieldError::Refused { left: bytes.len() });
@@ -35,7 +39,8 @@ pub fn read_bytes(bytes: &[u8], count: usize) -> Result<(&[u8], &[u8]), FieldErr
 /// A number of two bytes.
 #[tactic(auto, unfolding(crate::specs::Reading::number_at))]
 pub fn read_u16(bytes: &[u8]) -> Result<(u16, &[u8]), FieldError>
-    ensures { Gives (λ x. (x.0, x.1.now)) result (number_at w16 bytes.now) }
+    ensures gives { Gives (λ x. (x.0, x.1.now)) result (number_at w16 bytes.now) }
+    ensures free { IfErr result IsRefused }
 {
     let (front, rest) = read_bytes(bytes, 2)?;
     Ok((u16::from_be_bytes([front[0], front[1]]), rest))
@@ -44,7 +49,8 @@ pub fn read_u16(bytes: &[u8]) -> Result<(u16, &[u8]), FieldError>
 /// A number of four bytes.
 #[tactic(auto, unfolding(crate::specs::Reading::number_at))]
 pub fn read_u32(bytes: &[u8]) -> Result<(u32, &[u8]), FieldError>
-    ensures { Gives (λ x. (x.0, x.1.now)) result (number_at w32 bytes.now) }
+    ensures gives { Gives (λ x. (x.0, x.1.now)) result (number_at w32 bytes.now) }
+    ensures free { IfErr result IsRefused }
 {
     let (front, rest) = read_bytes(bytes, 4)?;
     let number = u32::from_be_bytes([front[0], front[1], front[2], front[3]]);
@@ -54,7 +60,8 @@ pub fn read_u32(bytes: &[u8]) -> Result<(u32, &[u8]), FieldError>
 /// A number of eight bytes.
 #[tactic(auto, unfolding(crate::specs::Reading::number_at))]
 pub fn read_u64(bytes: &[u8]) -> Result<(u64, &[u8]), FieldError>
-    ensures { Gives (λ x. (x.0, x.1.now)) result (number_at w64 bytes.now) }
+    ensures gives { Gives (λ x. (x.0, x.1.now)) result (number_at w64 bytes.now) }
+    ensures free { IfErr result IsRefused }
 {
     let (front, rest) = read_bytes(bytes, 8)?;
     let number = u64::from_be_bytes([
@@ -68,6 +75,7 @@ pub fn read_u64(bytes: &[u8]) -> Result<(u64, &[u8]), FieldError>
 pub fn read_byte_in(bytes: &[u8], least: u16, most: u8) -> Result<(u8, &[u8]), FieldError>
     ensures gives { Gives (λ x. (x.0, x.1.now)) result (byte_in least most bytes.now) }
     ensures within { IfOk result (λ x. IsInRange least most x.0) }
+    ensures free { IfErr result IsRefused }
 {
     let (byte, rest) = read_byte(bytes)?;
     if least <= u16::from(byte) && byte <= most {
@@ -82,6 +90,7 @@ pub fn read_byte_in(bytes: &[u8], least: u16, most: u8) -> Result<(u8, &[u8]), F
 pub fn read_u16_in(bytes: &[u8], least: u16, most: u16) -> Result<(u16, &[u8]), FieldError>
     ensures gives { Gives (λ x. (x.0, x.1.now)) result (number_in w16 least most bytes.now) }
     ensures within { IfOk result (λ x. IsInRange least most x.0) }
+    ensures free { IfErr result IsRefused }
 {
     let (number, rest) = read_u16(bytes)?;
     if least <= number && number <= most {
@@ -96,6 +105,7 @@ pub fn read_u16_in(bytes: &[u8], least: u16, most: u16) -> Result<(u16, &[u8]), 
 pub fn read_u32_in(bytes: &[u8], least: u32, most: u32) -> Result<(u32, &[u8]), FieldError>
     ensures gives { Gives (λ x. (x.0, x.1.now)) result (number_in w32 least most bytes.now) }
     ensures within { IfOk result (λ x. IsInRange least most x.0) }
+    ensures free { IfErr result IsRefused }
 {
     let (number, rest) = read_u32(bytes)?;
     if least <= number && number <= most {
@@ -110,6 +120,7 @@ pub fn read_u32_in(bytes: &[u8], least: u32, most: u32) -> Result<(u32, &[u8]), 
 pub fn read_above(bytes: &[u8], low: u32, most: u32) -> Result<(u32, &[u8]), FieldError>
     ensures gives { Gives (λ x. (x.0, x.1.now)) result (number_above w32 low most bytes.now) }
     ensures within { IfOk result (λ x. (low < x.0) × (x.0 ≤ most)) }
+    ensures free { IfErr result IsRefused }
 {
     let (number, rest) = read_u32(bytes)?;
     if low < number && number <= most {
@@ -124,6 +135,7 @@ pub fn read_above(bytes: &[u8], low: u32, most: u32) -> Result<(u32, &[u8]), Fie
 pub fn read_positive(bytes: &[u8]) -> Result<(u32, &[u8]), FieldError>
     ensures gives { Gives (λ x. (x.0, x.1.now)) result (positive_at bytes.now) }
     ensures within { IfOk result (λ x. 1 ≤ x.0) }
+    ensures free { IfErr result IsRefused }
 {
     read_above(bytes, 0, u32::MAX)
 }
@@ -146,7 +158,8 @@ pub fn read_text(
 /// The bytes after `mark`, with which the bytes have to begin.
 #[tactic(auto, unfolding(crate::specs::Reading::mark_at))]
 pub fn read_mark<'a>(bytes: &'a [u8], mark: &[u8]) -> Result<&'a [u8], FieldError>
-    ensures { Gives (λ rest. (tt, rest.now)) result (mark_at mark.now bytes.now) }
+    ensures gives { Gives (λ rest. (tt, rest.now)) result (mark_at mark.now bytes.now) }
+    ensures free { IfErr result IsRefused }
 {
     if bytes.starts_with(mark) {
         Ok(&bytes[mark.len()..])
@@ -161,7 +174,8 @@ pub fn read_whole<T: Drop>(
     bytes: &[u8],
     read: Result<(T, &[u8]), FieldError>,
 ) -> Result<T, WordsError>
-    ensures { (reading : Read T) → Gives (λ x. (x.0, x.1.now)) read.entry reading → Answers result (all_read (length bytes.now) reading) }
+    ensures answers { (reading : Read T) → Gives (λ x. (x.0, x.1.now)) read.entry reading → Answers result (all_read (length bytes.now) reading) }
+    ensures free { result ≡ Err words.OutOfMemory → read.entry ≡ Err fields.OutOfMemory }
 {
     match read {
         Ok((value, rest)) if rest.is_empty() => Ok(value),
