@@ -99,9 +99,9 @@ pub checked_field : {A : Type 0} {read : List ℕ → Read A} {spell : A → Lis
 unfolding checked
 checked_field {A} {read} {spell} {Keeps} test field = record {
   takes = λ bytes x rest fits e.
-    step field bytes (x, rest) fits e λ y rest' t keeps e'.
-    let g = guard_ok (test y) (y, rest') (x, rest) (length bytes) e' in
-    subst (λ (p : A × List ℕ). Takes bytes (spell p.0) p.1 × (Keeps p.0 × (test p.0 ≡ true))) g.1 (t, (keeps, g.0));
+      step field bytes (x, rest) fits e λ y rest' t keeps e'.
+      let g = guard_ok (test y) (y, rest') (x, rest) (length bytes) e' in
+      subst (λ (p : A × List ℕ). Takes bytes (spell p.0) p.1 × (Keeps p.0 × (test p.0 ≡ true))) g.1 (t, (keeps, g.0));
   again = λ x rest keeps. again_step field _ _ x keeps.0 (rw keeps.1 refl);
 }
 

@@ -46,11 +46,11 @@ bytes_at_takes n bytes front rest fits e =
     let g = short_ok (ltb (length bytes) n) (take n bytes, drop n bytes) (front, rest) (length bytes) e in
     let long : n ≤ length bytes = ltb-false _ _ g.0 in
     subst (λ (p : List ℕ × List ℕ). IsFront n bytes p.0 p.1) g.1
-      (record {
-        taken = record { parts = sym (take-append-drop n bytes); rest_fits = IsBytes-drop n bytes fits };
-        count = omega (arith, length-take n bytes);
-        fits = IsBytes-take n bytes fits;
-      })
+    (record {
+      taken = record { parts = sym (take-append-drop n bytes); rest_fits = IsBytes-drop n bytes fits };
+      count = omega (arith, length-take n bytes);
+      fits = IsBytes-take n bytes fits;
+    })
 
 pub bytes_at_again : (n : ℕ) (front rest : List ℕ) → length front ≡ n → bytes_at n (front ++ rest) ≡ Ok (front, rest)
 unfolding bytes_at
@@ -96,13 +96,13 @@ pub number_field : (w : Width) (limit : ℕ) → IsWide w limit → IsField (num
 unfolding number_at number
 number_field w limit wide = record {
   takes = λ bytes n rest fits e.
-    let b = bind_ok (bytes_at (byte_len w) bytes) (λ front rest'. Ok (from_be_bytes w front, rest')) (n, rest) e in
-    let f = bytes_at_takes (byte_len w) bytes b.0 b.1 fits b.2 in
-    subst (λ (p : ℕ × List ℕ). Takes bytes (to_be_bytes w p.0) p.1 × (p.0 < limit)) (ok_is _ (n, rest) b.3)
+      let b = bind_ok (bytes_at (byte_len w) bytes) (λ front rest'. Ok (from_be_bytes w front, rest')) (n, rest) e in
+      let f = bytes_at_takes (byte_len w) bytes b.0 b.1 fits b.2 in
+      subst (λ (p : ℕ × List ℕ). Takes bytes (to_be_bytes w p.0) p.1 × (p.0 < limit)) (ok_is _ (n, rest) b.3)
       (rw (wide.back b.0 f.count f.fits) f.taken, wide.below b.0 f.fits);
   again = λ n rest lt.
-    ap (λ (r : Read (List ℕ)). r >>= λ front rest'. Ok (from_be_bytes w front, rest')) (bytes_at_again (byte_len w) (to_be_bytes w n) rest (wide.len n))
-    ∙ ap (λ (m : ℕ). Ok (m, rest)) (wide.again n lt);
+      ap (λ (r : Read (List ℕ)). r >>= λ front rest'. Ok (from_be_bytes w front, rest')) (bytes_at_again (byte_len w) (to_be_bytes w n) rest (wide.len n))
+      ∙ ap (λ (m : ℕ). Ok (m, rest)) (wide.again n lt);
 }
 
 pub u16_field : IsField (number_at w16) (number w16) (λ n. n < 2 ^ 16)
@@ -161,12 +161,12 @@ pub text_field : (least most : ℕ) → most < 2 ^ 16 → IsField (text_at least
 unfolding text_at text
 text_field least most below = record {
   takes = λ bytes x rest fits e.
-    step (u16_in_field least most) bytes (x, rest) fits e λ n r t keeps e'.
-    let f = bytes_at_takes n r x rest t.rest_fits e' in
-    (subst (λ (k : ℕ). Takes bytes (number w16 k ++ (x ++ [])) rest) (sym f.count) (t ▷ (f.taken ▷ none f.taken.rest_fits)), rw f.count keeps.1);
+      step (u16_in_field least most) bytes (x, rest) fits e λ n r t keeps e'.
+      let f = bytes_at_takes n r x rest t.rest_fits e' in
+      (subst (λ (k : ℕ). Takes bytes (number w16 k ++ (x ++ [])) rest) (sym f.count) (t ▷ (f.taken ▷ none f.taken.rest_fits)), rw f.count keeps.1);
   again = λ x rest keeps.
-    ap (text_at least most) (joined-append (number w16 (length x) ∷ x ∷ []) rest)
-    ∙ again_step (u16_in_field least most) _ _ (length x) (omega arith, keeps) (bytes_at_again (length x) x rest refl);
+      ap (text_at least most) (joined-append (number w16 (length x) ∷ x ∷ []) rest)
+      ∙ again_step (u16_in_field least most) _ _ (length x) (omega arith, keeps) (bytes_at_again (length x) x rest refl);
 }
 
 -- just these bytes
@@ -174,10 +174,10 @@ pub mark_field : (mark : List ℕ) → IsField (mark_at mark) (λ _. mark) (λ _
 unfolding mark_at
 mark_field mark = record {
   takes = λ bytes x rest fits e.
-    let g = guard_ok (starts_with eqb bytes mark) (tt, drop (length mark) bytes) (x, rest) (length bytes) e in
-    let parts : bytes ≡ mark ++ drop (length mark) bytes = (starts_is Decides-eqb bytes mark true (sym g.0)).0 refl in
-    subst (λ (p : Unit {0} × List ℕ). Takes bytes mark p.1 × Unit {0}) g.1 (record { parts = parts; rest_fits = IsBytes-drop (length mark) bytes fits }, tt);
+      let g = guard_ok (starts_with eqb bytes mark) (tt, drop (length mark) bytes) (x, rest) (length bytes) e in
+      let parts : bytes ≡ mark ++ drop (length mark) bytes = (starts_is Decides-eqb bytes mark true (sym g.0)).0 refl in
+      subst (λ (p : Unit {0} × List ℕ). Takes bytes mark p.1 × Unit {0}) g.1 (record { parts = parts; rest_fits = IsBytes-drop (length mark) bytes fits }, tt);
   again = λ x rest keeps.
-    let begins : starts_with eqb (mark ++ rest) mark ≡ true = (starts_is Decides-eqb (mark ++ rest) mark _ refl).1 rest refl in
-    rw (begins, drop_at mark rest (length mark) refl) refl;
+      let begins : starts_with eqb (mark ++ rest) mark ≡ true = (starts_is Decides-eqb (mark ++ rest) mark _ refl).1 rest refl in
+      rw (begins, drop_at mark rest (length mark) refl) refl;
 }

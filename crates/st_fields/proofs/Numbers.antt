@@ -37,10 +37,10 @@ pub kind_field : {K : Type 0} (number_of : K → ℕ) → ((j k : K) → number_
 unfolding kind_at byte_at
 kind_field number_of one kinds = record {
   takes = λ bytes kind rest fits e.
-    step byte_field bytes (kind, rest) fits e λ n r t keeps e'.
-    let named = named_ok (find (λ other. eqb (number_of other) n) kinds) r (length bytes) kind rest e' in
-    let found = find_passes (λ other. eqb (number_of other) n) kinds kind named.0 in
-    let is : n ≡ number_of kind = sym (eqb-true _ _ found.0) in
-    (rw (← is, ← named.1) t, subst (λ (m : ℕ). list_any (λ other. eqb (number_of other) m) kinds ≡ true) is found.1);
+      step byte_field bytes (kind, rest) fits e λ n r t keeps e'.
+      let named = named_ok (find (λ other. eqb (number_of other) n) kinds) r (length bytes) kind rest e' in
+      let found = find_passes (λ other. eqb (number_of other) n) kinds kind named.0 in
+      let is : n ≡ number_of kind = sym (eqb-true _ _ found.0) in
+      (rw (← is, ← named.1) t, subst (λ (m : ℕ). list_any (λ other. eqb (number_of other) m) kinds ≡ true) is found.1);
   again = λ kind rest among. rw (find_again number_of one kinds kind among) refl;
 }

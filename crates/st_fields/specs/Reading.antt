@@ -68,9 +68,9 @@ mark_at mark bytes = if starts_with nat_eq bytes mark then Ok (tt, drop (length 
 unfoldable pub list_at : {A S : Type 0} → (S → List ℕ → Read A) → (S → A → S) → ℕ → S → List ℕ → Read (List A)
 list_at read next zero state bytes = Ok ([], bytes)
 list_at read next (suc n) state bytes =
-  read state bytes >>= λ first rest.
-  list_at read next n (next state first) rest >>= λ others rest'.
-  Ok (first ∷ others, rest')
+    read state bytes >>= λ first rest.
+    list_at read next n (next state first) rest >>= λ others rest'.
+    Ok (first ∷ others, rest')
 
 -- from least to most elements, behind their number
 unfoldable pub counted_at : {A S : Type 0} → ℕ → ℕ → (S → List ℕ → Read A) → (S → A → S) → S → List ℕ → Read (List A)

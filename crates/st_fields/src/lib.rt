@@ -16,8 +16,8 @@ pub use each::{ReadsEach, Spelled, put_counted, put_list, read_counted, read_lis
 pub use error::{FieldError, WordsError};
 pub use kind::{Numbered, read_kind};
 pub use reading::{
-    read_above, read_byte, read_byte_in, read_bytes, read_mark, read_positive, read_text, read_u16, read_u16_in,
-    read_u32, read_u32_in, read_u64, read_whole,
+    read_above, read_byte, read_byte_in, read_bytes, read_mark, read_positive, read_text, read_u16,
+    read_u16_in, read_u32, read_u32_in, read_u64, read_whole,
 };
 pub use same::Same;
 pub use seq::{Bytes, Seq};

@@ -179,8 +179,12 @@ pub fn read_whole<T: Drop>(
 {
     match read {
         Ok((value, rest)) if rest.is_empty() => Ok(value),
-        Ok((_, rest)) => Err(WordsError::Malformed { place: bytes.len().saturating_sub(rest.len()) }),
-        Err(FieldError::Refused { left }) => Err(WordsError::Malformed { place: bytes.len().saturating_sub(left) }),
+        Ok((_, rest)) => Err(WordsError::Malformed {
+            place: bytes.len().saturating_sub(rest.len()),
+        }),
+        Err(FieldError::Refused { left }) => Err(WordsError::Malformed {
+            place: bytes.len().saturating_sub(left),
+        }),
         Err(FieldError::OutOfMemory) => Err(WordsError::OutOfMemory),
     }
 }

@@ -68,12 +68,12 @@ pub core_field : (among : List StatementKind) → IsField (core_at among) core_s
 unfolding core_at core_spelling
 core_field among = record {
   takes = λ bytes s rest fits e.
-    step (kind_field kind_number one_kind among) bytes (s, rest) fits e λ kind r0 t0 k0 e0.
-    let t = (fields_field kind).takes r0 s rest t0.rest_fits e0 in
-    (of_kind bytes (kind_number kind) kind r0 s rest refl t0 t, (subst (λ (k : StatementKind). IsTrue (is_among kind_number among k)) (sym t.1.0) k0, t.1.1));
+      step (kind_field kind_number one_kind among) bytes (s, rest) fits e λ kind r0 t0 k0 e0.
+      let t = (fields_field kind).takes r0 s rest t0.rest_fits e0 in
+      (of_kind bytes (kind_number kind) kind r0 s rest refl t0 t, (subst (λ (k : StatementKind). IsTrue (is_among kind_number among k)) (sym t.1.0) k0, t.1.1));
   again = λ s rest k.
-    ap (core_at among) (joined-append (byte (kind_number (kind_of s)) ∷ fields_spelling s ∷ []) rest)
-    ∙ again_step (kind_field kind_number one_kind among) _ _ (kind_of s) k.0 ((fields_field (kind_of s)).again s rest (refl, k.1));
+      ap (core_at among) (joined-append (byte (kind_number (kind_of s)) ∷ fields_spelling s ∷ []) rest)
+      ∙ again_step (kind_field kind_number one_kind among) _ _ (kind_of s) k.0 ((fields_field (kind_of s)).again s rest (refl, k.1));
 }
 
 -- a statement and its deployment's id
@@ -81,14 +81,14 @@ pub statement_field : IsField statement_at (λ x. statement_spelling x.0 x.1) (�
 unfolding statement_at statement_spelling
 statement_field = record {
   takes = λ bytes x rest fits e.
-    step (mark_field statement_mark) bytes (x, rest) fits e λ mark r0 t0 k0 e0.
-    step u64_field r0 (x, rest) t0.rest_fits e0 λ id r1 t1 k1 e1.
-    step (core_field all_kinds) r1 (x, rest) t1.rest_fits e1 λ s r2 t2 k2 e2.
-    subst (λ (p : (ℕ × Statement) × List ℕ). Takes bytes (statement_spelling p.0.0 p.0.1) p.1 × ((p.0.0 < 2 ^ 64) × (KeepsStatement p.0.1 × FitsStatement p.0.1))) (ok_is ((id, s), r2) (x, rest) e2)
+      step (mark_field statement_mark) bytes (x, rest) fits e λ mark r0 t0 k0 e0.
+      step u64_field r0 (x, rest) t0.rest_fits e0 λ id r1 t1 k1 e1.
+      step (core_field all_kinds) r1 (x, rest) t1.rest_fits e1 λ s r2 t2 k2 e2.
+      subst (λ (p : (ℕ × Statement) × List ℕ). Takes bytes (statement_spelling p.0.0 p.0.1) p.1 × ((p.0.0 < 2 ^ 64) × (KeepsStatement p.0.1 × FitsStatement p.0.1))) (ok_is ((id, s), r2) (x, rest) e2)
       (t0 ▷ (t1 ▷ (t2 ▷ none t2.rest_fits)), (k1, k2.1));
   again = λ x rest k.
-    ap statement_at (joined-append (statement_mark ∷ number w64 x.0 ∷ core_spelling x.1 ∷ []) rest)
-    ∙ (again_step (mark_field statement_mark) _ _ tt tt
+      ap statement_at (joined-append (statement_mark ∷ number w64 x.0 ∷ core_spelling x.1 ∷ []) rest)
+      ∙ (again_step (mark_field statement_mark) _ _ tt tt
       (again_step u64_field _ _ x.0 k.0
       (again_step (core_field all_kinds) _ _ x.1 (is_among-all (kind_of x.1), k.1) refl)));
 }
@@ -101,14 +101,14 @@ unfolding report_at
 report_again bounds (LocalReport site local index view base items) rest b k =
     let s = LocalReport site local index view base items in
     again_step byte_field _ _ 6 (omega arith)
-      (cond-true (bounds.local && true) _ _ (and_from bounds.local true b.0 refl)
-      ∙ local_report_again bounds s rest b (refl, k))
+    (cond-true (bounds.local && true) _ _ (and_from bounds.local true b.0 refl)
+    ∙ local_report_again bounds s rest b (refl, k))
 report_again bounds (GlobalReport site view index base items) rest b k =
     let s = GlobalReport site view index base items in
     again_step byte_field _ _ 7 (omega arith)
-      (cond-false (bounds.local && false) _ _ (and_right bounds.local false refl)
-      ∙ cond-true (bounds.global && true) _ _ (and_from bounds.global true b.0 refl)
-      ∙ global_report_again bounds s rest b (refl, k))
+    (cond-false (bounds.local && false) _ _ (and_right bounds.local false refl)
+    ∙ cond-true (bounds.global && true) _ _ (and_from bounds.global true b.0 refl)
+    ∙ global_report_again bounds s rest b (refl, k))
 report_again bounds _ rest b k = absurd b
 
 -- a report's core within the bounds
@@ -116,18 +116,18 @@ pub report_field : (bounds : ReportBounds) → IsField (report_at bounds) core_s
 unfolding report_at core_spelling
 report_field bounds = record {
   takes = λ bytes s rest fits e.
-    step byte_field bytes (s, rest) fits e λ kind r0 t0 k0 e0.
-    elim (chosen (bounds.local && eqb kind 6) (local_report_at bounds r0) (cond (bounds.global && eqb kind 7) (global_report_at bounds r0) (Err (length bytes))) (Ok (s, rest)) e0) [
-      | inl local ↦
-          (let test = and_parts bounds.local (eqb kind 6) local.0 in
-          let t = local_report_takes bounds test.0 r0 s rest t0.rest_fits local.1 in
-          (of_kind bytes kind kinds.LocalReport r0 s rest (eqb-true kind 6 test.1) t0 t.0, (t.1, t.0.1.1)))
-      | inr other ↦
-          (let g = guard_read (bounds.global && eqb kind 7) (global_report_at bounds r0) (s, rest) (length bytes) other.1 in
-          let test = and_parts bounds.global (eqb kind 7) g.0 in
-          let t = global_report_takes bounds test.0 r0 s rest t0.rest_fits g.1 in
-          (of_kind bytes kind kinds.GlobalReport r0 s rest (eqb-true kind 7 test.1) t0 t.0, (t.1, t.0.1.1)))
-    ];
+      step byte_field bytes (s, rest) fits e λ kind r0 t0 k0 e0.
+      elim (chosen (bounds.local && eqb kind 6) (local_report_at bounds r0) (cond (bounds.global && eqb kind 7) (global_report_at bounds r0) (Err (length bytes))) (Ok (s, rest)) e0) [
+        | inl local ↦
+            (let test = and_parts bounds.local (eqb kind 6) local.0 in
+            let t = local_report_takes bounds test.0 r0 s rest t0.rest_fits local.1 in
+            (of_kind bytes kind kinds.LocalReport r0 s rest (eqb-true kind 6 test.1) t0 t.0, (t.1, t.0.1.1)))
+        | inr other ↦
+            (let g = guard_read (bounds.global && eqb kind 7) (global_report_at bounds r0) (s, rest) (length bytes) other.1 in
+            let test = and_parts bounds.global (eqb kind 7) g.0 in
+            let t = global_report_takes bounds test.0 r0 s rest t0.rest_fits g.1 in
+            (of_kind bytes kind kinds.GlobalReport r0 s rest (eqb-true kind 7 test.1) t0 t.0, (t.1, t.0.1.1)))
+      ];
   again = λ s rest k.
-    ap (report_at bounds) (joined-append (byte (kind_number (kind_of s)) ∷ fields_spelling s ∷ []) rest) ∙ report_again bounds s rest k.0 k.1;
+      ap (report_at bounds) (joined-append (byte (kind_number (kind_of s)) ∷ fields_spelling s ∷ []) rest) ∙ report_again bounds s rest k.0 k.1;
 }

@@ -1,6 +1,6 @@
 -- The ranges of fields. What a format asks (Keeps) stands apart from what every value of the code's
 -- types meets (Fits), so that a caller of a writer owes only the first.
-use Rattle.std.specs.Prelude.{ℕ, ◌+◌, ◌-◌, ◌^◌, ◌<◌, ◌≤◌, Bool, IsTrue, List, length, All}
+use Rattle.std.specs.Prelude.{ℕ, ◌+◌, ◌-◌, ◌^◌, ◌<◌, ◌≤◌, Bool, true, false, IsTrue, List, length, All}
 use Rattle.std.specs.Int.{IsInRange}
 use Rattle.st_fields.specs.Spelling.{KeepsEach}
 use Rattle.st_words.specs.declared.value.Update.{Update}
@@ -73,6 +73,12 @@ abbrev pub KeepsBounds : ReportBounds → Statement → Type 0
 KeepsBounds b (LocalReport site local index view base items) = IsTrue b.local × IsInRange b.least_site b.most_site site.0 × (b.after_view < local.0) × (local.0 ≤ b.most_view) × (b.least_index ≤ index)
 KeepsBounds b (GlobalReport site view index base items) = IsTrue b.global × IsInRange b.least_site b.most_site site.0 × (b.after_view < view.0) × (view.0 ≤ b.most_view) × (b.least_index ≤ index)
 KeepsBounds b _ = ⊥
+
+-- what may stand behind a report in one list: its kind, its site and its view again, and a later index
+abbrev pub after_report : ReportBounds → Statement → ReportBounds
+after_report b (LocalReport site local index view base items) = record { local = true; global = false; least_site = site.0; most_site = site.0; after_view = local.0 - 1; most_view = local.0; least_index = index + 1 }
+after_report b (GlobalReport site view index base items) = record { local = false; global = true; least_site = site.0; most_site = site.0; after_view = view.0 - 1; most_view = view.0; least_index = index + 1 }
+after_report b _ = b
 
 -- ---- what the code's types keep
 

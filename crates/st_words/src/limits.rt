@@ -2,6 +2,8 @@
 
 ghost use Rattle.std.specs.Prelude.{◌≡◌};
 
+use crate::statement::Statement;
+
 /// What the next item of a list may be.
 #[derive(Clone, Copy, Debug, PartialEq, Eq)]
 pub struct ItemLimits {
@@ -32,6 +34,7 @@ pub struct ReportBounds {
 }
 
 impl ReportBounds {
+    ghost use Rattle.st_words.specs.Ranges.{after_report};
     ghost use Rattle.st_words.specs.Reading.{any_report};
 
     /// Every report.
@@ -46,6 +49,38 @@ impl ReportBounds {
             after_view: 0,
             most_view: u32::MAX,
             least_index: 0,
+        }
+    }
+
+    /// What may stand behind this report in one list: a report of its kind, its site and its view,
+    /// with a greater index. Another statement changes nothing.
+    pub fn after(self, report: &Statement) -> ReportBounds
+        ensures { result ≡ after_report self report.now }
+    {
+        match report {
+            Statement::LocalReport {
+                site, local, index, ..
+            } => ReportBounds {
+                local: true,
+                global: false,
+                least_site: site.0,
+                most_site: site.0,
+                after_view: local.0.saturating_sub(1),
+                most_view: local.0,
+                least_index: u16::from(*index) + 1,
+            },
+            Statement::GlobalReport {
+                site, view, index, ..
+            } => ReportBounds {
+                local: false,
+                global: true,
+                least_site: site.0,
+                most_site: site.0,
+                after_view: view.0.saturating_sub(1),
+                most_view: view.0,
+                least_index: u16::from(*index) + 1,
+            },
+            _ => self,
         }
     }
 }

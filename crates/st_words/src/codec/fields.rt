@@ -8,7 +8,9 @@ use crate::codec::item::{MOST_BASE, limits_above, read_items};
 use crate::codec::value::{MOST_TEXT, read_update, read_value};
 use crate::ids::{ClientId, LocalView, Number, SiteId, View};
 use crate::statement::Statement;
-use st_fields::{FieldError, read_byte, read_mark, read_positive, read_text, read_u32, read_u32_in};
+use st_fields::{
+    FieldError, read_byte, read_mark, read_positive, read_text, read_u32, read_u32_in,
+};
 use std::alloc::Global;
 
 #[tactic(auto, unfolding(crate::specs::Reading::prepare_at))]

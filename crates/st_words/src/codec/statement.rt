@@ -18,7 +18,8 @@ use crate::kind::StatementKind;
 use crate::limits::ReportBounds;
 use crate::statement::Statement;
 use st_fields::{
-    Bytes, FieldError, Numbered, Seq, WordsError, put_byte, put_bytes, put_u64, read_kind, read_mark, read_u64, read_whole,
+    Bytes, FieldError, Numbered, Seq, WordsError, put_byte, put_bytes, put_u64, read_kind,
+    read_mark, read_u64, read_whole,
 };
 use std::alloc::{AllocError, Global};
 
@@ -140,11 +141,9 @@ pub fn read_statement(alloc: Global, bytes: &[u8]) -> Result<(u64, Statement), W
 /// No statement's bytes are a proper front of another's, or of its own with more behind them.
 pub fn no_proper_prefix()
     ensures { (i j : ℕ) (s t : Statement) (rest : List ℕ) → i < 2 ^ 64 → j < 2 ^ 64 → KeepsStatement s → FitsStatement s → KeepsStatement t → FitsStatement t → statement_spelling i s ++ rest ≡ statement_spelling j t → (i ≡ j) × (s ≡ t) × (rest ≡ []) }
-{
-}
+{}
 
 /// Two statements, or one statement of two deployments, have different bytes.
 pub fn one_statement()
     ensures { (i j : ℕ) (s t : Statement) → i < 2 ^ 64 → j < 2 ^ 64 → KeepsStatement s → FitsStatement s → KeepsStatement t → FitsStatement t → statement_spelling i s ≡ statement_spelling j t → (i ≡ j) × (s ≡ t) }
-{
-}
+{}
