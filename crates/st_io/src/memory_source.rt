@@ -1,4 +1,4 @@
-ghost use Rattle.std.specs.Prelude.{◌≡◌, ◌≤◌, ◌↔◌, ◌<◌, ℕ, List, Some, Option, IsTrue, IsErr, IfOk, OnErr, IsOkUnless, min, length, take, drop};
+ghost use Rattle.std.specs.Prelude.{◌≡◌, ◌≤◌, ◌↔◌, ◌<◌, ℕ, List, Some, Option, IsTrue, IsErr, IfOk, OnOk, OnErr, IsOkUnless, min, length, take, drop};
 ghost use Rattle.std.specs.Io.{ReadsAtMost};
 ghost use Rattle.st_fields.specs.declared.error.WordsError.TheVariants as words;
 
@@ -82,6 +82,7 @@ impl Source for MemorySource {
 
     fn read(&mut self, piece: &mut [u8]) -> Result<usize, Failed>
         ensures plan { source_plan self.new ≡ called (source_plan self.old) }
+        ensures no_fault { OnOk result ((source_plan self.new).faults ≡ (source_plan self.old).faults) }
         ensures later { (source_plan self.old).faults ≤ (source_plan self.new).faults }
         ensures fails { IsErr result ↔ IsTrue (fails_next (source_plan self.old)) }
         ensures kept { OnErr result (memory_left self.new ≡ memory_left self.old) }

@@ -44,6 +44,7 @@ impl From<AllocError> for ReadError {
 /// faults rose.
 pub fn read_all<S: Source>(alloc: Global, source: &mut S, limit: usize) -> Result<Bytes, ReadError>
     ensures within { IfOk result (λ bytes. length bytes ≤ limit) }
+    ensures no_fault { OnOk result (S.faults source.new ≡ S.faults source.old) }
     ensures told { (all : List ℕ) → S.left source.old ≡ Some all → ReadsAll all limit result (S.left source.new) }
     ensures later { S.faults source.old ≤ S.faults source.new }
     ensures failed { result ≡ Err reads.Failed → Rose (S.faults source.old) (S.faults source.new) }
@@ -82,6 +83,7 @@ fn read_more<S: Source>(
     ensures few { IfOk result (λ count. count ≤ length piece.old) }
     ensures gone { OnErr result ((left : List ℕ) → S.left source.old ≡ Some left → LosesFew left (S.left source.new) (length piece.old)) }
     ensures kept { result ≡ Err reads.Failed → S.left source.new ≡ S.left source.old }
+    ensures no_fault { OnOk result (S.faults source.new ≡ S.faults source.old) }
     ensures later { S.faults source.old ≤ S.faults source.new }
     ensures failed { result ≡ Err reads.Failed → Rose (S.faults source.old) (S.faults source.new) }
     ensures short { result ≢ Err reads.TooLong }
@@ -95,6 +97,7 @@ fn read_more<S: Source>(
 /// the sink's count of faults rose.
 pub fn write_all<K: Sink>(sink: &mut K, bytes: &[u8]) -> Result<(), SinkError>
     ensures all { OnOk result (Adds (K.taken sink.old) (K.taken sink.new) bytes.now) }
+    ensures no_fault { OnOk result (K.faults sink.new ≡ K.faults sink.old) }
     ensures front { OnErr result (AddsFront (K.taken sink.old) (K.taken sink.new) bytes.now) }
     ensures later { K.faults sink.old ≤ K.faults sink.new }
     ensures failed { result ≡ Err sinks.Failed → Rose (K.faults sink.old) (K.faults sink.new) }
@@ -112,6 +115,7 @@ fn write_some<'a, K: Sink>(sink: &mut K, bytes: &'a [u8]) -> Result<&'a [u8], Si
     ensures some { IfOk result (λ rest. AddsSome (K.taken sink.old) (K.taken sink.new) bytes.now rest.now) }
     ensures fewer { IfOk result (λ rest. length rest.now < length bytes.now) }
     ensures kept { OnErr result (K.taken sink.new ≡ K.taken sink.old) }
+    ensures no_fault { OnOk result (K.faults sink.new ≡ K.faults sink.old) }
     ensures later { K.faults sink.old ≤ K.faults sink.new }
     ensures failed { result ≡ Err sinks.Failed → Rose (K.faults sink.old) (K.faults sink.new) }
 {

@@ -26,7 +26,7 @@ pub loop-buffer-preserved : goal.loop-buffer-preserved
 loop-buffer-preserved g c = record {
   few = omega (arith, length-take {A = ℕ}, c.in_ok-count.ensures.long, c.in_ok-count.ensures.few);
   told = λ all told. read_on all _ _ _ _ (c.loop-buffer.invariant.told all told) c.in_ok-count.ensures.told;
-  later = omega arith;
+  no_fault = c.in_ok-count.ensures.no_fault ∙ c.loop-buffer.invariant.no_fault;
 }
 
 pub returns-clause-told : goal.returns-clause-told

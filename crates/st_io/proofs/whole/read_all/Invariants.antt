@@ -8,7 +8,7 @@ abbrev pub invariant-loop-buffer : goal.invariant-loop-buffer
 invariant-loop-buffer g l = record {
   few : length l.bytes.items ≤ l.limit + 1;
   told : (all : List ℕ) → g.S.Source.left l.fn.source ≡ Some all → HasRead all l.bytes.items (g.S.Source.left l.source);
-  later : g.S.Source.faults l.fn.source ≤ g.S.Source.faults l.source;
+  no_fault : g.S.Source.faults l.source ≡ g.S.Source.faults l.fn.source;
 }
 
 abbrev pub decreases-loop-buffer : goal.decreases-loop-buffer

@@ -1,5 +1,5 @@
 -- What was added grows by the bytes of one write, and is all at the end.
-use Rattle.std.proofs.Common.{length, arith, sym, ◌∙◌}
+use Rattle.std.proofs.Common.{length, sym, ◌∙◌}
 use Rattle.std.proofs.lemmas.Bool.{eqb-true}
 use Rattle.st_io.proofs.StreamLaws.{adds_on, adds_front_on, adds_none}
 use Rattle.st_io.proofs.whole.write_all.Goals as goal
@@ -10,7 +10,7 @@ loop-rest-preserved g c =
     record {
       all = λ last added. c.loop-rest.invariant.all last (adds_on _ _ last _ _ some added);
       front = λ last added. c.loop-rest.invariant.front last (adds_front_on _ _ last _ _ some added);
-      later = omega arith;
+      no_fault = c.in_ok-rest.ensures.no_fault ∙ c.loop-rest.invariant.no_fault;
     }
 
 pub returns-clause-all : goal.returns-clause-all
