@@ -12,3 +12,8 @@ pub mod Ordering
 pub mod Reconciling
 pub mod Duty
 pub mod Fits
+pub mod Known
+pub mod World
+pub mod Schedule
+pub mod Certificates
+pub mod Flat
