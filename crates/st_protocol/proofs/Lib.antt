@@ -1,4 +1,6 @@
 -- Lemmas.
-pub mod StateLaws
+pub mod GatherLaws
+pub mod GrowthLaws
+pub mod QuestionLaws
 pub mod CourseLaws
-pub mod FilterLaws
+pub mod DropLaws

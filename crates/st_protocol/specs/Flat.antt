@@ -5,8 +5,9 @@ use Rattle.st_words.specs.declared.statement.Statement.{Statement}
 use Rattle.st_words.specs.declared.statement.Statement.TheVariants.{Proposal, Accept}
 use Rattle.st_message.specs.declared.made.MadeSeal.{MadeSeal}
 use Rattle.st_protocol.specs.Words.{a_prepare, a_proposal, an_accept, server_at, same_who, same_value}
+use Rattle.st_protocol.specs.Keeping.{joined}
 use Rattle.st_protocol.specs.State.{Here}
-use Rattle.st_protocol.specs.Questions.{questions}
+use Rattle.st_protocol.specs.Questions.{here_of}
 use Rattle.st_protocol.specs.Step.{count_below}
 use Rattle.st_protocol.specs.World.{Deployment, World, servers_of, is_correct, seat_of}
 use Rattle.st_protocol.specs.Certificates.{faults, has_made_at, correct_that, correct_count, stands}
@@ -53,7 +54,7 @@ view_of_accept _ = 0
 
 module _ {Wire : Type 0} (d : Deployment Wire) where
   abbrev pub here_at : World Wire → ℕ → ℕ → Here
-  here_at world site index = (questions (seat_of d site index) (world.nodes site index).bodies (world.nodes site index).heard).here
+  here_at world site index = here_of (seat_of d site index) (joined (world.nodes site index).bodies)
 
   -- the server has made a statement that passes a test
   abbrev pub has_made_some : World Wire → ℕ → (Statement → Bool) → ℕ → Bool

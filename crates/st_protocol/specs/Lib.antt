@@ -3,6 +3,7 @@ pub mod Words
 pub mod Keeping
 pub mod State
 pub mod Questions
+pub mod Growth
 pub mod Step
 pub mod Forced
 pub mod Assigning

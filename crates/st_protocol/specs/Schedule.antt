@@ -1,5 +1,6 @@
 -- What the event lines of a schedule do to a world, one by one.
 use Rattle.std.specs.Prelude.{ℕ, ◌+◌, ◌-◌, ◌%◌, Bool, true, false, cond, zero, suc, nat_eq, nat_lt, nat_le, ◌&&◌, ◌||◌, not, Option, Some, None, List, [], ◌∷◌, ◌++◌, length, slice_get}
+use Rattle.std.specs.List.{fold}
 use Rattle.st_words.specs.declared.ids.Who.{Who}
 use Rattle.st_words.specs.declared.ids.Who.TheVariants as parties
 use Rattle.st_words.specs.declared.value.Update.{Update}
@@ -210,9 +211,11 @@ module _ {Wire : Type 0} (d : Deployment Wire) where
   unfoldable pub step : World Wire → Line → Stepped Wire
   step world line = cond (is_reference world line) (goes world line) (stepped (ends world (Some BadReference)) (done.Dropped 0))
 
-  unfoldable pub steps : World Wire → List Line → World Wire
-  steps world [] = world
-  steps world (line ∷ more) = steps (step world line).world more
+  abbrev pub goes_on : World Wire → Line → World Wire
+  goes_on world line = (step world line).world
+
+  abbrev pub steps : World Wire → List Line → World Wire
+  steps world all = fold goes_on world all
 
   -- The world of these lines.
   abbrev pub world_of : List Line → World Wire

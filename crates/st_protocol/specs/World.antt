@@ -1,5 +1,6 @@
 -- A whole deployment: its servers, its clients, what was sent, and what an event of a party does to it.
 use Rattle.std.specs.Prelude.{ℕ, ◌+◌, ◌-◌, ◌*◌, Bool, true, false, cond, nat_eq, nat_lt, nat_le, ◌&&◌, ◌||◌, not, Option, Some, None, is_some, List, [], ◌∷◌, ◌++◌, length, bytes_eq}
+use Rattle.std.specs.List.{fold}
 use Rattle.st_words.specs.declared.ids.Who.{Who}
 use Rattle.st_words.specs.declared.ids.Who.TheVariants as parties
 use Rattle.st_words.specs.declared.statement.Statement.{Statement}
@@ -316,10 +317,12 @@ module _ {Wire : Type 0} (d : Deployment Wire) where
   notes_seal site index world m =
       given (handed site m) world (λ s. hands world (server_at site index) (leaf_within s (world.nodes site index).bodies) s)
 
-  unfoldable pub hands_out : ℕ → ℕ → List Output → World Wire → World Wire
-  hands_out site index [] world = world
-  hands_out site index (o ∷ os) world =
-      hands_out site index os (sends_to (notes_seal site index world o.message) (d.formats.encode o.message) (dests_of o.to))
+  -- one message of a server's is handed out
+  unfoldable pub hands_one : ℕ → ℕ → World Wire → Output → World Wire
+  hands_one site index world o = sends_to (notes_seal site index world o.message) (d.formats.encode o.message) (dests_of o.to)
+
+  abbrev pub hands_out : ℕ → ℕ → World Wire → List Output → World Wire
+  hands_out site index world outputs = fold (hands_one site index) world outputs
 
   -- the server's node after a plan that is handed out: a body is written by four device calls
   abbrev pub settled : Node → Plan → Node
@@ -353,7 +356,7 @@ module _ {Wire : Type 0} (d : Deployment Wire) where
       (stepped (with_node world site index (stands_full (world.nodes site index))) done.Full)
       (cond (is_stopped_by (world.nodes site index) plan)
       (stepped (with_node world site index (stands_stopped (world.nodes site index) plan.changes)) done.Stopped)
-      (stepped (hands_out site index plan.outputs (with_node world site index (settled (world.nodes site index) plan))) (done.Outcome plan.outcome)))
+      (stepped (hands_out site index (with_node world site index (settled (world.nodes site index) plan)) plan.outputs) (done.Outcome plan.outcome)))
 
   abbrev pub pen_at : ℕ → ℕ → Pen
   pen_at site index = d.formats.seal (server_at site index)
