@@ -18,3 +18,4 @@ pub mod World
 pub mod Schedule
 pub mod Certificates
 pub mod Flat
+pub mod Report
