@@ -1,6 +1,8 @@
 -- What each step of a course keeps holds at the end of it.
 use Rattle.std.proofs.Common.{◌≡◌, ◌+◌, Bool, true, false, cond, nat_eq, nat_lt, List, [], ◌∷◌, ◌++◌, refl, sym, ◌∙◌, ap, append_assoc, append-nil}
 use Rattle.std.specs.Prelude.{◌&&◌, ◌%◌}
+use Rattle.std.specs.List.{fold}
+use Rattle.std.proofs.lemmas.List.Sums.{fold_push}
 use Rattle.st_words.specs.declared.value.Value.{Value}
 use Rattle.st_words.specs.declared.value.Value.TheVariants as values
 use Rattle.st_words.specs.declared.statement.Statement.{Statement}
@@ -16,9 +18,10 @@ use Rattle.st_message.specs.declared.step.Out.TheVariants.{Make}
 use Rattle.st_message.specs.declared.step.Step.{Step}
 use Rattle.st_protocol.specs.Words.{a_reply, to_client_at}
 use Rattle.st_protocol.specs.State.{Seat, Answers}
-use Rattle.st_protocol.specs.Questions.{questions, after, hears, after_all}
+use Rattle.st_protocol.specs.Questions.{questions}
+use Rattle.st_protocol.specs.Growth.{after, hears, after_all}
 use Rattle.st_protocol.specs.Duty.{Pen, Course, begins, records, keeps, puts, emits, makes, sealed, reports_as, replies, carries_change, carries_changes, keeps_all, emits_all, carries, fills_up, course, statement_in}
-use Rattle.st_protocol.proofs.StateLaws.{one_body, one_heard}
+use Rattle.st_protocol.proofs.QuestionLaws.{one_body, one_heard}
 
 -- Q is kept by a change, by something heard, and by an output.
 pub record IsKept (Q : Course → Type 0) : Type 0 where
@@ -50,6 +53,7 @@ kept_replies {Q = Q} k pen was (values.Update u) w h =
     (kept_makes k pen w (a_reply was.here.seat.site u.client.0 u.time (was.here.executed + 1) (was.here.seat.serve was.log.run.ran u.op)) forms.Reply (to_client_at u.client.0) h) h
 
 kept_change : {Q : Course → Type 0} → IsKept Q → (pen : Pen) (w : Course) (x : Change) → Q w → Q (carries_change pen w x)
+unfolding carries_change
 kept_change k pen w (EnterLocal y q) h = kept_reports k pen (records w (EnterLocal y q)) _ (k.records w (EnterLocal y q) h)
 kept_change k pen w (EnterGlobal y ss) h = kept_reports k pen (records w (EnterGlobal y ss)) _ (k.records w (EnterGlobal y ss) h)
 kept_change k pen w (Made n s) h = k.records w (Made n s) h
@@ -59,17 +63,14 @@ kept_change k pen w (Union s q) h = k.records w (Union s q) h
 kept_change k pen w (Executed n p) h = kept_replies k pen w.now p.value (records w (Executed n p)) (k.records w (Executed n p) h)
 
 kept_changes : {Q : Course → Type 0} → IsKept Q → (pen : Pen) (w : Course) (xs : List Change) → Q w → Q (carries_changes pen w xs)
-unfolding carries_changes
 kept_changes k pen w [] h = h
 kept_changes k pen w (x ∷ xs) h = kept_changes k pen (carries_change pen w x) xs (kept_change k pen w x h)
 
 kept_heard : {Q : Course → Type 0} → IsKept Q → (w : Course) (ms : List Heard) → Q w → Q (keeps_all w ms)
-unfolding keeps_all
 kept_heard k w [] h = h
 kept_heard k w (m ∷ ms) h = kept_heard k (keeps w m) ms (k.keeps w m h)
 
 kept_out : {Q : Course → Type 0} → IsKept Q → (pen : Pen) (w : Course) (os : List Out) → Q w → Q (emits_all pen w os)
-unfolding emits_all
 kept_out k pen w [] h = h
 kept_out k pen w (o ∷ os) h = kept_out k pen (emits pen w o) os (kept_emits k pen w o h)
 
@@ -86,15 +87,10 @@ kept_course k pen q step h = kept_carries k pen (carries pen (begins q) step) _ 
 unfoldable pub Follows : Seat → List (List Change) → List Heard → Course → Type 0
 Follows seat bodies heard w = w.now ≡ questions seat (bodies ++ w.changes ∷ []) (heard ++ w.heard)
 
-after_all-last : (q : Answers) (xs : List Change) (x : Change) → after_all q (xs ++ x ∷ []) ≡ after (after_all q xs) x
-unfolding after_all
-after_all-last q [] x = refl
-after_all-last q (y ∷ ys) x = after_all-last (after q y) ys x
-
 body-last : (seat : Seat) (bodies : List (List Change)) (heard : List Heard) (xs : List Change) (x : Change) →
     questions seat (bodies ++ (xs ++ x ∷ []) ∷ []) heard ≡ after (questions seat (bodies ++ xs ∷ []) heard) x
 body-last seat bodies heard xs x =
-    one_body seat bodies heard (xs ++ x ∷ []) ∙ after_all-last (questions seat bodies heard) xs x ∙ ap (λ q. after q x) (sym (one_body seat bodies heard xs))
+    one_body seat bodies heard (xs ++ x ∷ []) ∙ fold_push after (questions seat bodies heard) xs x ∙ ap (λ q. after q x) (sym (one_body seat bodies heard xs))
 
 follows : (seat : Seat) (bodies : List (List Change)) (heard : List Heard) → IsKept (Follows seat bodies heard)
 unfolding Follows records keeps puts
@@ -108,14 +104,10 @@ follows seat bodies heard =
       puts = λ w o h. h;
     }
 
-nothing_more : (q : Answers) → after_all q [] ≡ q
-unfolding after_all
-nothing_more q = refl
-
 at_first : (seat : Seat) (bodies : List (List Change)) (heard : List Heard) → Follows seat bodies heard (begins (questions seat bodies heard))
 unfolding Follows begins
 at_first seat bodies heard =
-    sym (one_body seat bodies heard [] ∙ nothing_more (questions seat bodies heard)) ∙ ap (questions seat (bodies ++ [] ∷ [])) (sym (append-nil heard))
+    sym (one_body seat bodies heard []) ∙ ap (questions seat (bodies ++ [] ∷ [])) (sym (append-nil heard))
 
 -- The answers at the end of an event are those of the records with its changes and of the heard list with what it heard.
 pub course_follows : (seat : Seat) (bodies : List (List Change)) (heard : List Heard) (pen : Pen) (step : Step) →

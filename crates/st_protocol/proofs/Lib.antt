@@ -1,4 +1,8 @@
 -- Lemmas.
-pub mod StateLaws
+pub mod GatherLaws
+pub mod GrowthLaws
+pub mod QuestionLaws
 pub mod CourseLaws
-pub mod FilterLaws
+pub mod DropLaws
+pub mod TextLaws
+pub mod SameLaws

@@ -1,5 +1,6 @@
 -- What a server does at an event: a part's step, carried out on what its state answers by now.
 use Rattle.std.specs.Prelude.{ℕ, ◌+◌, ◌%◌, Bool, true, false, cond, nat_eq, nat_lt, ◌&&◌, Option, Some, None, is_some, List, [], ◌∷◌, ◌++◌}
+use Rattle.std.specs.List.{fold}
 use Rattle.st_words.specs.declared.deployment.TheConstants.{WINDOW}
 use Rattle.st_words.specs.declared.value.Value.{Value}
 use Rattle.st_words.specs.declared.value.Value.TheVariants as values
@@ -30,7 +31,8 @@ use Rattle.st_message.specs.declared.step.Step.{Step}
 use Rattle.st_protocol.specs.Words.{Bytes, Quorum, a_reply, a_global_vc, to_client_at, to_server_at, same_update}
 use Rattle.st_protocol.specs.Keeping.{given}
 use Rattle.st_protocol.specs.State.{AtPrepare, AtProposal, AtAccept, Term, OfLocal, OfGlobal, report_of, Seat, Here, Sealing, Pended, Completed, Answers}
-use Rattle.st_protocol.specs.Questions.{questions, after, hears}
+use Rattle.st_protocol.specs.Questions.{questions}
+use Rattle.st_protocol.specs.Growth.{after, hears}
 use Rattle.st_protocol.specs.Step.{Answer, Refused, Steps, to_list, all_below, servers, rep, to_rep, to_site}
 use Rattle.st_protocol.specs.Forced.{forced_of}
 use Rattle.st_protocol.specs.Assigning.{on_update, on_assign, on_prepare, on_proposal_share, fill}
@@ -148,7 +150,7 @@ replies pen was (values.Update u) way =
     way
 
 -- a change, and what follows from it
-abbrev pub carries_change : Pen → Course → Change → Course
+unfoldable pub carries_change : Pen → Course → Change → Course
 carries_change pen way (EnterLocal x q) = reports pen false (records way (EnterLocal x q))
 carries_change pen way (EnterGlobal y sites) = reports pen true (records way (EnterGlobal y sites))
 carries_change pen way (Made k s) = records way (Made k s)
@@ -157,17 +159,14 @@ carries_change pen way (Accepted s q) = records way (Accepted s q)
 carries_change pen way (Union s q) = records way (Union s q)
 carries_change pen way (Executed n p) = replies pen way.now p.value (records way (Executed n p))
 
-unfoldable pub carries_changes : Pen → Course → List Change → Course
-carries_changes pen way [] = way
-carries_changes pen way (x ∷ xs) = carries_changes pen (carries_change pen way x) xs
+abbrev pub carries_changes : Pen → Course → List Change → Course
+carries_changes pen way changes = fold (carries_change pen) way changes
 
-unfoldable pub keeps_all : Course → List Heard → Course
-keeps_all way [] = way
-keeps_all way (m ∷ ms) = keeps_all (keeps way m) ms
+abbrev pub keeps_all : Course → List Heard → Course
+keeps_all way heard = fold keeps way heard
 
-unfoldable pub emits_all : Pen → Course → List Out → Course
-emits_all pen way [] = way
-emits_all pen way (o ∷ os) = emits_all pen (emits pen way o) os
+abbrev pub emits_all : Pen → Course → List Out → Course
+emits_all pen way outs = fold (emits pen) way outs
 
 -- A part's step is carried out: its changes with what follows from each, then what it keeps, then what goes out.
 unfoldable pub carries : Pen → Course → Step → Course
@@ -221,7 +220,7 @@ of_bundle state (r ∷ rs) = check_bundle state.here (union_made state (report_o
 -- the part that takes a message
 abbrev pub of_kind : Answers → Message → Answer
 of_kind state (messages.Update u seal) =
-    on_update state.here state.pending (state.log.run.last u.client.0) (state.making.reply (state.log.place u.client.0)) u seal
+    on_update state.here state.pending (state.log.run.last u.client.0) (state.making.reply (state.log.run.place u.client.0)) u seal
 of_kind state (messages.Assign view local number value client_seal signed) =
     on_assign state.here state.slots (forced_of state.here state.unions) view.0 local.0 number.0 value client_seal signed
 of_kind state (messages.Share s signed) = of_share state s signed

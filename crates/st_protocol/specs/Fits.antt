@@ -1,5 +1,5 @@
--- Whether a change of a journal fits the state that the changes before it leave; and the values that changes execute.
-use Rattle.std.specs.Prelude.{ℕ, ◌+◌, ◌-◌, Bool, false, cond, nat_eq, nat_lt, nat_le, ◌&&◌, not, Option, None, is_none, List, [], ◌∷◌, ◌++◌, slice_get, bytes_eq}
+-- Whether a change of a journal fits the state that the changes before it leave.
+use Rattle.std.specs.Prelude.{ℕ, ◌+◌, Bool, false, nat_eq, nat_lt, nat_le, ◌&&◌, not, is_none, bytes_eq}
 use Rattle.st_words.specs.declared.deployment.TheConstants.{LAST_NUMBER, MOST_VIEW}
 use Rattle.st_words.specs.declared.value.Value.{Value}
 use Rattle.st_words.specs.declared.value.Value.TheVariants as values
@@ -11,7 +11,7 @@ use Rattle.st_message.specs.declared.log.Entry.{Entry}
 use Rattle.st_message.specs.declared.log.Ran.{Ran}
 use Rattle.st_message.specs.declared.log.Ran.TheVariants as outcomes
 use Rattle.st_protocol.specs.Words.{Bytes, site_of}
-use Rattle.st_protocol.specs.Keeping.{given}
+use Rattle.st_protocol.specs.Keeping.{given, numbered}
 use Rattle.st_protocol.specs.State.{OfLocal, OfGlobal, Here, Answers}
 use Rattle.st_protocol.specs.Step.{out_of_window}
 use Rattle.st_protocol.specs.Duty.{sealing_of}
@@ -28,10 +28,6 @@ is_ran_by client time result _ _ = false
 abbrev pub is_ran : ℕ → ℕ → Bytes → Entry → Bool
 is_ran client time result entry = is_ran_by client time result entry.value entry.ran
 
--- entry n of a log, from 1
-abbrev pub entry_at : List Entry → ℕ → Option Entry
-entry_at entries n = cond (nat_eq n 0) None (slice_get entries (n - 1))
-
 abbrev pub may_be_made : Answers → Statement → Bool
 may_be_made state (Prepare site view local number value) = is_here state.here view.0 local.0 number.0
 may_be_made state (Proposal site view local number value) = is_here state.here view.0 local.0 number.0
@@ -43,7 +39,7 @@ may_be_made state (GlobalReport site view index base items) = nat_eq view.0 stat
 may_be_made state (LocalUnion site local greatest base items) = nat_eq local.0 state.here.local
 may_be_made state (GlobalUnion site view base items) = nat_eq view.0 state.here.view
 may_be_made state (Reply site client time number result) =
-    given (entry_at state.log.run.entries number.0) false (is_ran client.0 time result)
+    given (numbered state.log.run.entries number.0) false (is_ran client.0 time result)
 may_be_made state (ClientUpdate update) = false
 
 abbrev pub fits : Answers → Change → Bool
@@ -62,13 +58,3 @@ fits state (Union (LocalUnion site local greatest base items) q) =
 fits state (Union (GlobalUnion site view base items) q) = nat_eq view.0 state.here.view && is_none (state.unions (OfGlobal view.0) site.0)
 fits state (Executed number p) = nat_eq number.0 (state.here.executed + 1) && nat_le number.0 LAST_NUMBER
 fits state _ = false
-
--- the values that changes execute, in order
-unfoldable pub executed_in : List Change → List Value
-executed_in [] = []
-executed_in (Executed n p ∷ xs) = p.value ∷ executed_in xs
-executed_in (x ∷ xs) = executed_in xs
-
-unfoldable pub executed_values : List (List Change) → List Value
-executed_values [] = []
-executed_values (body ∷ bodies) = executed_in body ++ executed_values bodies

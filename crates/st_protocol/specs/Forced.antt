@@ -1,9 +1,9 @@
 -- What unions say: whether enough of them are held, the base, and the values that they force.
-use Rattle.std.specs.Prelude.{ℕ, ◌+◌, max, Bool, true, false, cond, zero, suc, nat_eq, nat_lt, nat_le, ◌&&◌, ◌||◌, not, Option, Some, None, is_some, List, [], ◌∷◌}
+use Rattle.std.specs.Prelude.{ℕ, ◌+◌, max, Bool, true, false, cond, zero, suc, nat_eq, nat_lt, nat_le, ◌&&◌, not, Option, Some, None, is_some, List, [], ◌∷◌}
 use Rattle.st_words.specs.declared.deployment.TheConstants.{WINDOW}
 use Rattle.st_words.specs.declared.value.Value.{Value}
 use Rattle.st_words.specs.declared.statement.Item.{Item}
-use Rattle.st_protocol.specs.Keeping.{given, or_else}
+use Rattle.st_protocol.specs.Keeping.{given, or_else, higher}
 use Rattle.st_protocol.specs.State.{Term, OfLocal, OfGlobal, Here, Held}
 use Rattle.st_protocol.specs.Step.{count_below, some_below, majority}
 
@@ -18,11 +18,15 @@ unfoldable pub item_at : ℕ → List Item → Option Item
 item_at n [] = None
 item_at n (i ∷ is) = cond (nat_eq i.number.0 n) (Some i) (item_at n is)
 
+abbrev pub item_view : Item → ℕ
+item_view i = i.view.0
+
+abbrev pub item_local : Item → ℕ
+item_local i = i.local.0
+
 -- the higher (view, local view), of equals the first
 abbrev pub higher_item : Option Item → Option Item → Option Item
-higher_item None y = y
-higher_item (Some x) None = Some x
-higher_item (Some x) (Some y) = cond (nat_lt x.view.0 y.view.0 || (nat_eq x.view.0 y.view.0 && nat_lt x.local.0 y.local.0)) (Some y) (Some x)
+higher_item x y = higher item_view item_local x y
 
 abbrev pub local_held : Here → (Term → ℕ → Option Held) → Option Held
 local_held here unions = unions (OfLocal here.local) here.seat.site

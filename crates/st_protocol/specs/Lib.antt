@@ -3,6 +3,7 @@ pub mod Words
 pub mod Keeping
 pub mod State
 pub mod Questions
+pub mod Growth
 pub mod Step
 pub mod Forced
 pub mod Assigning
@@ -12,3 +13,9 @@ pub mod Ordering
 pub mod Reconciling
 pub mod Duty
 pub mod Fits
+pub mod Known
+pub mod World
+pub mod Schedule
+pub mod Certificates
+pub mod Flat
+pub mod Report

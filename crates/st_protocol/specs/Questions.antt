@@ -1,5 +1,7 @@
--- What a server's records and what it heard answer to the questions of its duties.
-use Rattle.std.specs.Prelude.{ℕ, ◌+◌, max, Bool, true, false, cond, nat_eq, nat_lt, nat_le, ◌&&◌, ◌||◌, Option, Some, None, List, [], ◌∷◌, ◌++◌}
+-- What a server's records and what it heard answer to the questions of its duties: each answer is what is picked
+-- of the two lists, less what the present state has left behind.
+use Rattle.std.specs.Prelude.{length, ℕ, ◌+◌, Bool, true, false, cond, nat_eq, nat_lt, ◌&&◌, Option, Some, None, List, [], ◌∷◌, ◌++◌}
+use Rattle.std.specs.List.{flat_map, fold}
 use Rattle.st_words.specs.declared.value.Value.{Value}
 use Rattle.st_words.specs.declared.value.Value.TheVariants as values
 use Rattle.st_words.specs.declared.statement.Statement.{Statement}
@@ -9,15 +11,49 @@ use Rattle.st_message.specs.declared.change.Change.TheVariants.{EnterLocal, Ente
 use Rattle.st_message.specs.declared.change.Heard.{Heard}
 use Rattle.st_message.specs.declared.log.Ran.{Ran}
 use Rattle.st_message.specs.declared.log.Ran.TheVariants as outcomes
+use Rattle.st_message.specs.declared.message.SiteWord.{SiteWord}
 use Rattle.st_message.specs.declared.message.Proof.{Proof}
 use Rattle.st_message.specs.declared.message.ReportBody.{ReportBody}
 use Rattle.st_message.specs.declared.message.Message.{Message}
 use Rattle.st_message.specs.declared.message.Message.TheVariants as messages
-use Rattle.st_protocol.specs.Words.{Bytes, Quorum, site_of, index_of, local_of}
-use Rattle.st_protocol.specs.Keeping.{or_else, or_last, greatest, greatest_last, open_if, from}
-use Rattle.st_protocol.specs.State.{Place, AtAccept, Term, Seat, Here, Sealing, Backed, Share, Slots, Making, Run, Log, Pended, Vote, Asked, Votes, Held, Word, Hand, KeptViews, Completed, Own, Answers, at_place, at_vc, at_report, at_union, at_reply, open_place, open_term, open_vc, open_number, open_at}
+use Rattle.st_protocol.specs.Words.{Bytes, Quorum, site_of, index_of}
+use Rattle.st_protocol.specs.Keeping.{given, greatest, open_if, from, first_of, last_of, greatest_of, last_greatest_of, highest_of, most_of, count_of, joined, numbered}
+use Rattle.st_protocol.specs.State.{Place, AtAccept, Term, Seat, Here, Sealing, Backed, Share, Slots, Making, Run, Log, Pended, Vote, Asked, Votes, Held, Word, Hand, KeptViews, Completed, Own, Answers, at_place, at_vc, at_report, at_union, at_reply, backed_view, backed_local, pended_time, vote_view, asked_view, word_view, word_height, completed_view, completed_local, open_place, open_term, open_vc, open_number, open_at}
 
 -- ---- what one change says
+
+abbrev pub view_entered : Change → ℕ
+view_entered (EnterGlobal view sites) = view.0
+view_entered _ = 0
+
+abbrev pub local_entered : Change → ℕ
+local_entered (EnterLocal local q) = local.0
+local_entered _ = 0
+
+abbrev pub is_made : Change → Bool
+is_made (Made leaf s) = true
+is_made _ = false
+
+abbrev pub is_executed : Change → Bool
+is_executed (Executed number p) = true
+is_executed _ = false
+
+-- a view that was entered, and why
+pub record Entered : Type 0 where
+  pub view : ℕ
+  pub sites : List SiteWord
+
+abbrev pub entered_view : Entered → ℕ
+entered_view e = e.view
+
+abbrev pub entering : Change → Option Entered
+entering (EnterGlobal view sites) = Some (record { view = view.0; sites = sites })
+entering _ = None
+
+-- a local view that was entered, and why
+abbrev pub entering_local : Change → Option Asked
+entering_local (EnterLocal local q) = Some (record { view = local.0; quorum = q })
+entering_local _ = None
 
 abbrev pub sealing_in : (Statement → Bool) → Change → Option Sealing
 sealing_in test (Made leaf s) = cond (test s) (Some (record { leaf = leaf; statement = s })) None
@@ -40,20 +76,24 @@ abbrev pub held_in : Term → ℕ → Change → Option Held
 held_in t site (Union s q) = cond (at_union t s && nat_eq (site_of s) site) (held_of s q) None
 held_in t site _ = None
 
--- the higher (view, local view), of equals the first
-abbrev pub higher : Option Backed → Option Backed → Option Backed
-higher None y = y
-higher (Some x) None = Some x
-higher (Some x) (Some y) = cond (nat_lt x.view y.view || (nat_eq x.view y.view && nat_lt x.local y.local)) (Some y) (Some x)
+-- the order proof of a number that is executed
+abbrev pub proofs_by : Change → List Proof
+proofs_by (Executed number p) = p ∷ []
+proofs_by _ = []
 
-abbrev pub here_after : Change → Here → Here
-here_after (EnterLocal x q) here = record here { local = max here.local x.0 }
-here_after (EnterGlobal y ws) here = record here { view = max here.view y.0 }
-here_after (Made k s) here = record here { leaf = here.leaf + 1 }
-here_after (Prepared s q) here = here
-here_after (Accepted s q) here = here
-here_after (Union s q) here = here
-here_after (Executed n p) here = record here { executed = here.executed + 1 }
+abbrev pub values_by : Change → List Value
+values_by (Executed number p) = p.value ∷ []
+values_by _ = []
+
+unfoldable pub proofs_in : List Change → List Proof
+proofs_in changes = flat_map proofs_by changes
+
+-- The values that changes execute, in order.
+unfoldable pub executed_in : List Change → List Value
+executed_in changes = flat_map values_by changes
+
+unfoldable pub executed_values : List (List Change) → List Value
+executed_values records = executed_in (joined records)
 
 -- ---- the run of a log
 
@@ -70,47 +110,38 @@ abbrev pub ops_of : (ℕ → ℕ) → Value → List Bytes
 ops_of last values.Noop = []
 ops_of last (values.Update u) = cond (nat_lt (last u.client.0) u.time) (u.op ∷ []) []
 
-unfoldable pub runs : (List Bytes → Bytes → Bytes) → Run → Value → Run
-runs serve run v =
-    record { last = last_after run.last v; entries = run.entries ++ record { value = v; ran = ran_by serve run v } ∷ []; ran = run.ran ++ ops_of run.last v }
-
--- The run of a log.
-unfoldable pub run_on : (List Bytes → Bytes → Bytes) → Run → List Value → Run
-run_on serve run [] = run
-run_on serve run (v ∷ vs) = run_on serve (runs serve run v) vs
-
-abbrev pub no_run : Run
-no_run = record { last = λ c. 0; entries = []; ran = [] }
-
+-- One value is run.
 -- whether running a value runs an update of the client
 abbrev pub runs_for : (ℕ → ℕ) → Value → ℕ → Bool
 runs_for last values.Noop c = false
 runs_for last (values.Update u) c = nat_eq u.client.0 c && nat_lt (last c) u.time
 
--- The log after a change: number e+1 is executed.
-abbrev pub log_after : Change → Here → Log → Log
-log_after (Executed n p) here log =
-    record {
-      run = runs here.seat.serve log.run p.value;
-      place = λ c. cond (runs_for log.run.last p.value c) (here.executed + 1) (log.place c);
-      proof = λ m. cond (nat_eq (here.executed + 1) m) (Some p) (log.proof m);
-    }
-log_after _ here log = log
+unfoldable pub runs : (List Bytes → Bytes → Bytes) → Run → Value → Run
+runs serve run v =
+    record { last = last_after run.last v; place = λ c. cond (runs_for run.last v c) (length run.entries + 1) (run.place c); entries = run.entries ++ record { value = v; ran = ran_by serve run v } ∷ []; ran = run.ran ++ ops_of run.last v }
 
-abbrev pub words_after : Change → Here → KeptViews → KeptViews
-words_after (EnterLocal x q) here kept = record { local = cond (nat_lt here.local x.0) (Some q) kept.local; view = kept.view }
-words_after (EnterGlobal y ws) here kept = record { local = kept.local; view = cond (nat_lt here.view y.0) (Some ws) kept.view }
-words_after _ here kept = kept
+-- The run of a log.
+abbrev pub run_on : (List Bytes → Bytes → Bytes) → Run → List Value → Run
+run_on serve run values = fold (runs serve) run values
+
+abbrev pub no_run : Run
+no_run = record { last = λ c. 0; place = λ c. 0; entries = []; ran = [] }
 
 -- ---- what one thing heard says
 
 -- of what another server said
 abbrev pub if_other : {A : Type 0} → Heard → (Message → Option A) → Option A
-if_other x pick = cond x.own None (pick x.message)
+if_other m pick = cond m.own None (pick m.message)
 
 -- of what this server itself sent
 abbrev pub if_own : {A : Type 0} → Heard → (Message → Option A) → Option A
-if_own x pick = cond x.own (pick x.message) None
+if_own m pick = cond m.own (pick m.message) None
+
+abbrev pub taken : {A : Type 0} → (Message → Option A) → Heard → Option A
+taken pick m = if_other m pick
+
+abbrev pub owned : {A : Type 0} → (Message → Option A) → Heard → Option A
+owned pick m = if_own m pick
 
 abbrev pub share_in : (Statement → Bool) → ℕ → Message → Option Share
 share_in test index (messages.Share s signed) = cond (test s && nat_eq signed.index index) (Some (record { statement = s; seal = signed.seal })) None
@@ -149,6 +180,10 @@ abbrev pub height_in : ℕ → Message → ℕ
 height_in number (messages.Certificate (Accept s g n v) q) = cond (nat_eq n.0 number) (g.0 + 1) 0
 height_in number _ = 0
 
+-- of another server's Accept certificate for the number, 1 more than its view
+abbrev pub taken_height : ℕ → Heard → ℕ
+taken_height number m = cond m.own 0 (height_in number m.message)
+
 abbrev pub proof_in : ℕ → Message → Option Proof
 proof_in number (messages.OrderProof n p) = cond (nat_eq n.0 number) (Some p) None
 proof_in number _ = None
@@ -165,207 +200,108 @@ abbrev pub is_proposal_at : ℕ → ℕ → Statement → Bool
 is_proposal_at view number (Proposal s g l n v) = nat_eq view g.0 && nat_eq number n.0
 is_proposal_at view number _ = false
 
-abbrev pub view_asked : Statement → ℕ
-view_asked (GlobalVc s y) = y.0
-view_asked _ = 0
+abbrev pub is_accept_at : ℕ → ℕ → Statement → Bool
+is_accept_at view number s = at_place (AtAccept view number) s
 
--- ---- each group: after a change is noted (`here` is that after it), after something is heard, and what of it is dropped
+-- ---- the questions, group by group: `changes` were recorded, `heard` was heard, and `here` is where that leaves the server
 
-abbrev pub slots_notes : Here → Change → Slots → Slots
-slots_notes here x slots =
+-- Views are the greatest that were entered; leaves and numbers are counted.
+unfoldable pub here_of : Seat → List Change → Here
+here_of seat changes =
     record {
-      made = λ p. open_if (open_place here p) (or_else (slots.made p) (sealing_in (at_place p) x));
-      prepared = λ n. open_if (open_number here n) (higher (slots.prepared n) (prepared_in n x));
-      accepted = λ n. open_if (open_number here n) (higher (slots.accepted n) (accepted_in n x));
-      shares = slots.shares;
+      seat = seat;
+      view = most_of view_entered changes;
+      local = most_of local_entered changes;
+      executed = count_of is_executed changes;
+      leaf = count_of is_made changes;
     }
 
-abbrev pub slots_takes : Heard → Slots → Slots
-slots_takes m slots = record slots { shares = λ p i. or_else (slots.shares p i) (if_other m (share_in (at_place p) i)) }
-
-abbrev pub slots_cuts : Here → Slots → Slots
-slots_cuts here slots = record slots { shares = λ p i. open_if (open_place here p) (slots.shares p i) }
-
-abbrev pub making_notes : Here → Change → Making → Making
-making_notes here x making =
+-- Of a slot the statement that was made first; of a number the highest item; of a slot and a server its first share.
+abbrev pub slots_of : Here → List Change → List Heard → Slots
+slots_of here changes heard =
     record {
-      vc = λ t. open_if (open_vc here t) (or_else (making.vc t) (sealing_in (at_vc t) x));
-      report = λ t. open_if (open_term here t) (or_else (making.report t) (sealing_in (at_report t) x));
-      union = λ t. open_if (open_term here t) (or_else (making.union t) (sealing_in (at_union t) x));
-      reply = λ n. or_else (making.reply n) (sealing_in (at_reply n) x);
+      made = λ p. open_if (open_place here p) (first_of (sealing_in (at_place p)) changes);
+      prepared = λ n. open_if (open_number here n) (highest_of backed_view backed_local (prepared_in n) changes);
+      accepted = λ n. open_if (open_number here n) (highest_of backed_view backed_local (accepted_in n) changes);
+      shares = λ p i. open_if (open_place here p) (first_of (taken (share_in (at_place p) i)) heard);
     }
 
-abbrev pub unions_notes : Here → Change → (Term → ℕ → Option Held) → Term → ℕ → Option Held
-unions_notes here x unions t s = open_if (open_term here t) (or_else (unions t s) (held_in t s x))
-
-abbrev pub pending_takes : Heard → (ℕ → Option Pended) → ℕ → Option Pended
-pending_takes m pending c = greatest (λ (k : Pended). k.update.time) (pending c) (if_other m (update_in c))
-
-abbrev pub pending_cuts : (ℕ → ℕ) → (ℕ → Option Pended) → ℕ → Option Pended
-pending_cuts last pending c = from (λ (k : Pended). k.update.time) (last c + 1) (pending c)
-
-abbrev pub votes_takes : Heard → Votes → Votes
-votes_takes m votes =
+abbrev pub making_of : Here → List Change → Making
+making_of here changes =
     record {
-      local = λ i. greatest (λ (v : Vote). v.view) (votes.local i) (if_other m (local_vote_in i));
-      global = λ i. greatest (λ (v : Vote). v.view) (votes.global i) (if_other m (global_vote_in i));
-      unions = λ t i. or_else (votes.unions t i) (if_other m (share_in (at_union t) i));
-      asked = λ s. greatest (λ (a : Asked). a.view) (votes.asked s) (if_other m (asked_in s));
+      vc = λ t. open_if (open_vc here t) (first_of (sealing_in (at_vc t)) changes);
+      report = λ t. open_if (open_term here t) (first_of (sealing_in (at_report t)) changes);
+      union = λ t. open_if (open_term here t) (first_of (sealing_in (at_union t)) changes);
+      reply = λ n. first_of (sealing_in (at_reply n)) changes;
     }
 
-abbrev pub votes_cuts : Here → Votes → Votes
-votes_cuts here votes =
+-- The log is the run of the executed values, each with its number's proof.
+abbrev pub log_of : Seat → List Change → Log
+log_of seat changes = record { run = run_on seat.serve no_run (executed_in changes); proof = λ n. numbered (proofs_in changes) n }
+
+-- Of a client the update of the greatest time, if that is above its last.
+abbrev pub pending_of : (ℕ → ℕ) → List Heard → ℕ → Option Pended
+pending_of last heard c = from pended_time (last c + 1) (greatest_of pended_time (taken (update_in c)) heard)
+
+-- Of a server and of a site what asks for the greatest view, if that is above the present one.
+abbrev pub votes_of : Here → List Heard → Votes
+votes_of here heard =
     record {
-      local = λ i. from (λ (v : Vote). v.view) (here.local + 1) (votes.local i);
-      global = λ i. from (λ (v : Vote). v.view) (here.view + 1) (votes.global i);
-      unions = λ t i. open_if (open_term here t) (votes.unions t i);
-      asked = λ s. from (λ (a : Asked). a.view) (here.view + 1) (votes.asked s);
+      local = λ i. from vote_view (here.local + 1) (greatest_of vote_view (taken (local_vote_in i)) heard);
+      global = λ i. from vote_view (here.view + 1) (greatest_of vote_view (taken (global_vote_in i)) heard);
+      unions = λ t i. open_if (open_term here t) (first_of (taken (share_in (at_union t) i)) heard);
+      asked = λ s. from asked_view (here.view + 1) (greatest_of asked_view (taken (asked_in s)) heard);
     }
 
-abbrev pub reports_takes : Heard → (Term → ℕ → Option ReportBody) → Term → ℕ → Option ReportBody
-reports_takes m reports t i = or_else (reports t i) (if_other m (report_in t i))
+abbrev pub unions_of : Here → List Change → Term → ℕ → Option Held
+unions_of here changes t s = open_if (open_term here t) (first_of (held_in t s) changes)
 
-abbrev pub reports_cuts : Here → (Term → ℕ → Option ReportBody) → Term → ℕ → Option ReportBody
-reports_cuts here reports t i = open_if (open_term here t) (reports t i)
+abbrev pub reports_of : Here → List Heard → Term → ℕ → Option ReportBody
+reports_of here heard t i = open_if (open_term here t) (first_of (taken (report_in t i)) heard)
 
-abbrev pub hand_takes : Heard → Hand → Hand
-hand_takes m hand =
+-- Of a number the Accept certificates at its highest view, one per site, and its order proof.
+abbrev pub hand_of : Here → List Heard → Hand
+hand_of here heard =
     record {
-      highest = λ n. max (hand.highest n) (cond m.own 0 (height_in n m.message));
-      word = λ n s. greatest (λ (w : Word). w.view) (hand.word n s) (if_other m (word_in n s));
-      proof = λ n. or_else (hand.proof n) (if_other m (proof_in n));
+      highest = λ n. cond (open_number here n) (most_of (taken_height n) heard) 0;
+      word = λ n s. open_if (open_number here n) (from word_height (most_of (taken_height n) heard) (greatest_of word_view (taken (word_in n s)) heard));
+      proof = λ n. open_if (open_number here n) (first_of (taken (proof_in n)) heard);
     }
 
-abbrev pub hand_cuts : Here → Hand → Hand
-hand_cuts here hand =
+-- Why the greatest views were entered.
+abbrev pub words_of : List Change → KeptViews
+words_of changes =
     record {
-      highest = λ n. cond (open_number here n) (hand.highest n) 0;
-      word = λ n s. open_if (open_number here n) (from (λ (w : Word). w.view + 1) (hand.highest n) (hand.word n s));
-      proof = λ n. open_if (open_number here n) (hand.proof n);
+      local = given (from asked_view 1 (greatest_of asked_view entering_local changes)) None (λ a. Some a.quorum);
+      view = given (from entered_view 1 (greatest_of entered_view entering changes)) None (λ e. Some e.sites);
     }
 
-abbrev pub own_takes : Heard → Own → Own
-own_takes m own =
+abbrev pub own_of : Here → List Heard → Own
+own_of here heard =
     record {
-      report = λ t. or_else (own.report t) (if_own m (own_report_in t));
-      vc = greatest_last (λ (c : Completed). view_asked c.statement) own.vc (if_own m (completed_in is_global_vc));
-      union = λ t. or_last (own.union t) (if_own m (completed_in (at_union t)));
-      proposal = λ g n. greatest_last (λ (c : Completed). local_of c.statement) (own.proposal g n) (if_own m (completed_in (is_proposal_at g n)));
-      accept = λ g n. or_last (own.accept g n) (if_own m (completed_in (at_place (AtAccept g n))));
+      report = λ t. open_if (open_term here t) (first_of (owned (own_report_in t)) heard);
+      vc = from completed_view (here.view + 1) (last_greatest_of completed_view (owned (completed_in is_global_vc)) heard);
+      union = λ t. open_if (open_term here t) (last_of (owned (completed_in (at_union t))) heard);
+      proposal = λ g n. open_if (open_at here g n) (last_greatest_of completed_local (owned (completed_in (is_proposal_at g n))) heard);
+      accept = λ g n. open_if (open_at here g n) (last_of (owned (completed_in (is_accept_at g n))) heard);
     }
 
-abbrev pub own_cuts : Here → Own → Own
-own_cuts here own =
+abbrev pub answers_by : Here → Seat → List Change → List Heard → Answers
+answers_by here seat changes heard =
     record {
-      report = λ t. open_if (open_term here t) (own.report t);
-      vc = from (λ (c : Completed). view_asked c.statement) (here.view + 1) own.vc;
-      union = λ t. open_if (open_term here t) (own.union t);
-      proposal = λ g n. open_if (open_at here g n) (own.proposal g n);
-      accept = λ g n. open_if (open_at here g n) (own.accept g n);
+      here = here;
+      slots = slots_of here changes heard;
+      making = making_of here changes;
+      log = log_of seat changes;
+      pending = pending_of (run_on seat.serve no_run (executed_in changes)).last heard;
+      votes = votes_of here heard;
+      unions = unions_of here changes;
+      reports = reports_of here heard;
+      hand = hand_of here heard;
+      words = words_of changes;
+      own = own_of here heard;
     }
 
--- ---- the three steps of which all is made
-
--- A change is recorded. It looks at nothing that was heard.
-unfoldable pub notes : Answers → Change → Answers
-notes state x =
-    record {
-      here = here_after x state.here;
-      slots = slots_notes (here_after x state.here) x state.slots;
-      making = making_notes (here_after x state.here) x state.making;
-      log = log_after x state.here state.log;
-      pending = state.pending;
-      votes = state.votes;
-      unions = unions_notes (here_after x state.here) x state.unions;
-      reports = state.reports;
-      hand = state.hand;
-      words = words_after x state.here state.words;
-      own = state.own;
-    }
-
--- Something is heard. It looks at nothing that was recorded.
-unfoldable pub takes : Answers → Heard → Answers
-takes state m =
-    record {
-      here = state.here;
-      slots = slots_takes m state.slots;
-      making = state.making;
-      log = state.log;
-      pending = pending_takes m state.pending;
-      votes = votes_takes m state.votes;
-      unions = state.unions;
-      reports = reports_takes m state.reports;
-      hand = hand_takes m state.hand;
-      words = state.words;
-      own = own_takes m state.own;
-    }
-
--- What no longer fits, or was replaced, is dropped. It leaves what was recorded.
-unfoldable pub cuts : Answers → Answers
-cuts state =
-    record {
-      here = state.here;
-      slots = slots_cuts state.here state.slots;
-      making = state.making;
-      log = state.log;
-      pending = pending_cuts state.log.run.last state.pending;
-      votes = votes_cuts state.here state.votes;
-      unions = state.unions;
-      reports = reports_cuts state.here state.reports;
-      hand = hand_cuts state.here state.hand;
-      words = state.words;
-      own = own_cuts state.here state.own;
-    }
-
--- ---- the questions
-
-abbrev pub fresh_here : Seat → Here
-fresh_here seat = record { seat = seat; view = 0; local = 0; executed = 0; leaf = 0 }
-
-unfoldable pub nothing : Seat → Answers
-nothing seat =
-    record {
-      here = fresh_here seat;
-      slots = record { made = λ p. None; prepared = λ n. None; accepted = λ n. None; shares = λ p i. None };
-      making = record { vc = λ t. None; report = λ t. None; union = λ t. None; reply = λ n. None };
-      log = record { run = no_run; place = λ c. 0; proof = λ n. None };
-      pending = λ c. None;
-      votes = record { local = λ i. None; global = λ i. None; unions = λ t i. None; asked = λ s. None };
-      unions = λ t s. None;
-      reports = λ t i. None;
-      hand = record { highest = λ n. 0; word = λ n s. None; proof = λ n. None };
-      words = record { local = None; view = None };
-      own = record { report = λ t. None; vc = None; union = λ t. None; proposal = λ g n. None; accept = λ g n. None };
-    }
-
-unfoldable pub notes_all : Answers → List Change → Answers
-notes_all state [] = state
-notes_all state (x ∷ xs) = notes_all (notes state x) xs
-
--- the records are a list of bodies, the oldest first
-unfoldable pub notes_bodies : Answers → List (List Change) → Answers
-notes_bodies state [] = state
-notes_bodies state (body ∷ bodies) = notes_bodies (notes_all state body) bodies
-
-unfoldable pub takes_all : Answers → List Heard → Answers
-takes_all state [] = state
-takes_all state (m ∷ ms) = takes_all (takes state m) ms
-
--- What the records and what was heard answer: all that was recorded, all that was heard, less what fits no more.
+-- What the records, a list of bodies with the oldest first, and what was heard answer.
 unfoldable pub questions : Seat → List (List Change) → List Heard → Answers
-questions seat records heard = cuts (takes_all (notes_bodies (nothing seat) records) heard)
-
--- The answers after one change more, and after one thing heard more.
-unfoldable pub after : Answers → Change → Answers
-after state x = cuts (notes state x)
-
-unfoldable pub hears : Answers → Heard → Answers
-hears state m = cuts (takes state m)
-
-unfoldable pub after_all : Answers → List Change → Answers
-after_all state [] = state
-after_all state (x ∷ xs) = after_all (after state x) xs
-
-unfoldable pub hears_all : Answers → List Heard → Answers
-hears_all state [] = state
-hears_all state (m ∷ ms) = hears_all (hears state m) ms
+questions seat records heard = answers_by (here_of seat (joined records)) seat (joined records) heard

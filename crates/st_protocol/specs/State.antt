@@ -10,7 +10,7 @@ use Rattle.st_message.specs.declared.message.SiteWord.{SiteWord}
 use Rattle.st_message.specs.declared.message.Proof.{Proof}
 use Rattle.st_message.specs.declared.message.ReportBody.{ReportBody}
 use Rattle.st_message.specs.declared.kept as kept
-use Rattle.st_protocol.specs.Words.{Bytes, Quorum}
+use Rattle.st_protocol.specs.Words.{Bytes, Quorum, local_of}
 use Rattle.st_protocol.specs.Keeping.{given}
 
 -- ---- where a statement stands
@@ -127,14 +127,14 @@ pub record Making : Type 0 where
 pub record Run : Type 0 where
   -- per client
   pub last : ℕ → ℕ
+  -- per client: the number at which its last update ran, 0 where none did
+  pub place : ℕ → ℕ
   pub entries : List Entry
   -- the operations that ran, in order: what the service is
   pub ran : List Bytes
 
 pub record Log : Type 0 where
   pub run : Run
-  -- per client: the number at which its last update ran, 0 at first
-  pub place : ℕ → ℕ
   -- per executed number
   pub proof : ℕ → Option Proof
 
@@ -206,6 +206,40 @@ pub record Answers : Type 0 where
   pub hand : Hand
   pub words : KeptViews
   pub own : Own
+
+-- ---- by what one of two is kept
+
+abbrev pub backed_view : Backed → ℕ
+backed_view b = b.view
+
+abbrev pub backed_local : Backed → ℕ
+backed_local b = b.local
+
+abbrev pub pended_time : Pended → ℕ
+pended_time k = k.update.time
+
+abbrev pub vote_view : Vote → ℕ
+vote_view v = v.view
+
+abbrev pub asked_view : Asked → ℕ
+asked_view a = a.view
+
+abbrev pub word_view : Word → ℕ
+word_view w = w.view
+
+-- 1 more than the view
+abbrev pub word_height : Word → ℕ
+word_height w = w.view + 1
+
+abbrev pub asking_view : Statement → ℕ
+asking_view (GlobalVc site view) = view.0
+asking_view _ = 0
+
+abbrev pub completed_view : Completed → ℕ
+completed_view c = asking_view c.statement
+
+abbrev pub completed_local : Completed → ℕ
+completed_local c = local_of c.statement
 
 -- ---- what isn't below a state: the tests behind "dropped"
 

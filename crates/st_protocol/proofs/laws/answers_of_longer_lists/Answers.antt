@@ -1,4 +1,4 @@
-use Rattle.st_protocol.proofs.StateLaws.{one_body, one_heard, more_heard}
+use Rattle.st_protocol.proofs.QuestionLaws.{one_body, one_heard, more_heard}
 use Rattle.st_protocol.proofs.CourseLaws.{Follows, course_follows}
 use Rattle.st_protocol.proofs.laws.answers_of_longer_lists.Goals as goal
 

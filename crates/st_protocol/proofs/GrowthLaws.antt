@@ -1,16 +1,19 @@
--- The law that joins a state's lists to its answers: one body more, one thing heard more.
-use Rattle.std.proofs.Common.{◌≡◌, ℕ, ◌+◌, ◌≤◌, Bool, true, false, cond, List, [], ◌∷◌, ◌++◌, refl, sym, ◌∙◌, ap, arith, append_assoc, append-nil}
+-- How the answers grow: recording, hearing and dropping, two by two, and over lists.
+use Rattle.std.proofs.Common.{◌≡◌, ℕ, ◌+◌, ◌≤◌, Bool, true, false, cond, List, [], ◌∷◌, ◌++◌, refl, sym, ◌∙◌, ap, arith}
 use Rattle.std.specs.Prelude.{Option, Some, None, max}
+use Rattle.std.specs.List.{fold}
 use Rattle.std.proofs.lemmas.Bool.Decides.{nat_tests}
+use Rattle.std.proofs.lemmas.List.Sums.{fold-append, fold_push}
 use Rattle.st_words.specs.declared.value.Value.{Value}
 use Rattle.st_words.specs.declared.value.Value.TheVariants as values
 use Rattle.st_message.specs.declared.change.Change.{Change}
 use Rattle.st_message.specs.declared.change.Change.TheVariants.{EnterLocal, EnterGlobal, Made, Prepared, Accepted, Union, Executed}
 use Rattle.st_message.specs.declared.change.Heard.{Heard}
-use Rattle.st_protocol.specs.Words.{local_of}
-use Rattle.st_protocol.specs.Keeping.{or_else, or_last, greatest, greatest_last, open_if, from}
-use Rattle.st_protocol.specs.State.{Place, AtPrepare, AtProposal, AtAccept, Term, OfLocal, OfGlobal, Seat, Here, Answers, Pended, Vote, Asked, Word, Completed, Share, Log, open_place, open_term, open_number, open_at, at_place, at_union}
-use Rattle.st_protocol.specs.Questions.{here_after, log_after, last_after, height_in, word_in, share_in, update_in, local_vote_in, global_vote_in, asked_in, report_in, own_report_in, proof_in, completed_in, is_global_vc, is_proposal_at, view_asked, if_other, if_own, notes, takes, cuts, nothing, notes_all, notes_bodies, takes_all, questions, after, hears, after_all, hears_all}
+use Rattle.st_protocol.specs.Keeping.{or_else, or_last, greatest, greatest_last, open_if, from, joined}
+use Rattle.st_protocol.specs.State.{Place, AtPrepare, AtProposal, AtAccept, Term, OfLocal, OfGlobal, Seat, Here, Answers, Log, pended_time, vote_view, asked_view, word_view, word_height, completed_view, completed_local, open_place, open_term, open_vc, open_number, open_at, at_place, at_union}
+use Rattle.st_protocol.specs.Questions.{runs, last_after, taken_height, word_in, share_in, update_in, local_vote_in, global_vote_in, asked_in, report_in, own_report_in, proof_in, completed_in, is_global_vc, is_proposal_at, is_accept_at, if_other, if_own}
+use Rattle.st_protocol.specs.Growth.{here_after, log_after, notes, takes, cuts, nothing, notes_all, takes_all, grown, after, hears, after_all, hears_all}
+use Rattle.st_protocol.proofs.GatherLaws.{joined-push}
 
 -- ---- of what is kept and dropped
 
@@ -66,7 +69,7 @@ last-rises last values.Noop c = omega arith
 last-rises last (values.Update u) c = grind (arith, nat_tests)
 
 log-rises : (x : Change) (h : Here) (log : Log) (c : ℕ) → log.run.last c ≤ (log_after x h log).run.last c
-unfolding Rattle.st_protocol.specs.Questions.runs
+unfolding runs
 log-rises (EnterLocal y q) h log c = omega arith
 log-rises (EnterGlobal y ss) h log c = omega arith
 log-rises (Made k s) h log c = omega arith
@@ -83,6 +86,10 @@ place-rises h k r (AtAccept g n) x = let a = r.view in let b = r.local in let c 
 pub term-rises : {A : Type 0} (h k : Here) → Rises h k → (t : Term) (x : Option A) → open_if (open_term k t) x ≡ open_if (open_term k t) (open_if (open_term h t) x)
 term-rises h k r (OfLocal l) x = let b = r.local in grind (arith, nat_tests)
 term-rises h k r (OfGlobal g) x = let a = r.view in grind (arith, nat_tests)
+
+pub vc-rises : {A : Type 0} (h k : Here) → Rises h k → (t : Term) (x : Option A) → open_if (open_vc k t) x ≡ open_if (open_vc k t) (open_if (open_vc h t) x)
+vc-rises h k r (OfLocal l) x = let b = r.local in grind (arith, nat_tests)
+vc-rises h k r (OfGlobal g) x = let a = r.view in grind (arith, nat_tests)
 
 pub number-rises : {A : Type 0} (h k : Here) → Rises h k → (n : ℕ) (x : Option A) → open_if (open_number k n) x ≡ open_if (open_number k n) (open_if (open_number h n) x)
 number-rises h k r n x = let c = r.executed in grind (arith, nat_tests)
@@ -120,30 +127,30 @@ cut_takes q m = λ i.
           };
       making = q.making;
       log = q.log;
-      pending = λ c. from-greatest (λ (k : Pended). k.update.time) (q.log.run.last c + 1) (q.pending c) (if_other m (update_in c)) i;
+      pending = λ c. from-greatest pended_time (q.log.run.last c + 1) (q.pending c) (if_other m (update_in c)) i;
       votes =
           record {
-            local = λ j. from-greatest (λ (v : Vote). v.view) (q.here.local + 1) (q.votes.local j) (if_other m (local_vote_in j)) i;
-            global = λ j. from-greatest (λ (v : Vote). v.view) (q.here.view + 1) (q.votes.global j) (if_other m (global_vote_in j)) i;
+            local = λ j. from-greatest vote_view (q.here.local + 1) (q.votes.local j) (if_other m (local_vote_in j)) i;
+            global = λ j. from-greatest vote_view (q.here.view + 1) (q.votes.global j) (if_other m (global_vote_in j)) i;
             unions = λ t j. open-step (open_term q.here t) (λ z. or_else z (if_other m (share_in (at_union t) j))) (q.votes.unions t j) i;
-            asked = λ s. from-greatest (λ (a : Asked). a.view) (q.here.view + 1) (q.votes.asked s) (if_other m (asked_in s)) i;
+            asked = λ s. from-greatest asked_view (q.here.view + 1) (q.votes.asked s) (if_other m (asked_in s)) i;
           };
       unions = q.unions;
       reports = λ t j. open-step (open_term q.here t) (λ z. or_else z (if_other m (report_in t j))) (q.reports t j) i;
       hand =
           record {
-            highest = λ n. top-take (open_number q.here n) (q.hand.highest n) (cond m.own 0 (height_in n m.message)) i;
-            word = λ n s. words-take (open_number q.here n) (λ (w : Word). w.view) (q.hand.highest n) (cond m.own 0 (height_in n m.message)) (q.hand.word n s) (if_other m (word_in n s)) i;
+            highest = λ n. top-take (open_number q.here n) (q.hand.highest n) (taken_height n m) i;
+            word = λ n s. words-take (open_number q.here n) word_view (q.hand.highest n) (taken_height n m) (q.hand.word n s) (if_other m (word_in n s)) i;
             proof = λ n. open-step (open_number q.here n) (λ z. or_else z (if_other m (proof_in n))) (q.hand.proof n) i;
           };
       words = q.words;
       own =
           record {
             report = λ t. open-step (open_term q.here t) (λ z. or_else z (if_own m (own_report_in t))) (q.own.report t) i;
-            vc = from-greatest_last (λ (c : Completed). view_asked c.statement) (q.here.view + 1) q.own.vc (if_own m (completed_in is_global_vc)) i;
+            vc = from-greatest_last completed_view (q.here.view + 1) q.own.vc (if_own m (completed_in is_global_vc)) i;
             union = λ t. open-step (open_term q.here t) (λ z. or_last z (if_own m (completed_in (at_union t)))) (q.own.union t) i;
-            proposal = λ g n. open-step (open_at q.here g n) (λ z. greatest_last (λ (c : Completed). local_of c.statement) z (if_own m (completed_in (is_proposal_at g n)))) (q.own.proposal g n) i;
-            accept = λ g n. open-step (open_at q.here g n) (λ z. or_last z (if_own m (completed_in (at_place (AtAccept g n))))) (q.own.accept g n) i;
+            proposal = λ g n. open-step (open_at q.here g n) (λ z. greatest_last completed_local z (if_own m (completed_in (is_proposal_at g n)))) (q.own.proposal g n) i;
+            accept = λ g n. open-step (open_at q.here g n) (λ z. or_last z (if_own m (completed_in (is_accept_at g n)))) (q.own.accept g n) i;
           };
     }
 
@@ -159,74 +166,56 @@ cut_rises q x =
       slots = record (notes q x).slots { shares = λ p j. place-rises q.here k r p (q.slots.shares p j) i };
       making = (notes q x).making;
       log = (notes q x).log;
-      pending = λ c. from-from (λ (k : Pended). k.update.time) (q.log.run.last c + 1) ((log_after x q.here q.log).run.last c + 1) (q.pending c) (let h = log-rises x q.here q.log c in omega (arith, h)) i;
+      pending = λ c. from-from pended_time (q.log.run.last c + 1) ((log_after x q.here q.log).run.last c + 1) (q.pending c) (let h = log-rises x q.here q.log c in omega (arith, h)) i;
       votes =
           record {
-            local = λ j. from-from (λ (v : Vote). v.view) (q.here.local + 1) (k.local + 1) (q.votes.local j) (let h = r.local in omega (arith, h)) i;
-            global = λ j. from-from (λ (v : Vote). v.view) (q.here.view + 1) (k.view + 1) (q.votes.global j) (let h = r.view in omega (arith, h)) i;
+            local = λ j. from-from vote_view (q.here.local + 1) (k.local + 1) (q.votes.local j) (let h = r.local in omega (arith, h)) i;
+            global = λ j. from-from vote_view (q.here.view + 1) (k.view + 1) (q.votes.global j) (let h = r.view in omega (arith, h)) i;
             unions = λ t j. term-rises q.here k r t (q.votes.unions t j) i;
-            asked = λ s. from-from (λ (a : Asked). a.view) (q.here.view + 1) (k.view + 1) (q.votes.asked s) (let h = r.view in omega (arith, h)) i;
+            asked = λ s. from-from asked_view (q.here.view + 1) (k.view + 1) (q.votes.asked s) (let h = r.view in omega (arith, h)) i;
           };
       unions = (notes q x).unions;
       reports = λ t j. term-rises q.here k r t (q.reports t j) i;
       hand =
           record {
             highest = λ n. top-rises q.here k r n (q.hand.highest n) i;
-            word = λ n s. words-rise q.here k r (λ (w : Word). w.view + 1) n (q.hand.highest n) (q.hand.word n s) i;
+            word = λ n s. words-rise q.here k r word_height n (q.hand.highest n) (q.hand.word n s) i;
             proof = λ n. number-rises q.here k r n (q.hand.proof n) i;
           };
       words = (notes q x).words;
       own =
           record {
             report = λ t. term-rises q.here k r t (q.own.report t) i;
-            vc = from-from (λ (c : Completed). view_asked c.statement) (q.here.view + 1) (k.view + 1) q.own.vc (let h = r.view in omega (arith, h)) i;
+            vc = from-from completed_view (q.here.view + 1) (k.view + 1) q.own.vc (let h = r.view in omega (arith, h)) i;
             union = λ t. term-rises q.here k r t (q.own.union t) i;
             proposal = λ g n. at-rises q.here k r g n (q.own.proposal g n) i;
             accept = λ g n. at-rises q.here k r g n (q.own.accept g n) i;
           };
     }
 
--- ---- the laws
+-- ---- over lists
 
 apart_all : (q : Answers) (x : Change) (heard : List Heard) → takes_all (notes q x) heard ≡ notes (takes_all q heard) x
-unfolding takes_all
 apart_all q x [] = refl
 apart_all q x (m ∷ ms) = ap (λ z. takes_all z ms) (apart q x m) ∙ apart_all (takes q m) x ms
 
-takes-last : (q : Answers) (heard : List Heard) (m : Heard) → takes_all q (heard ++ m ∷ []) ≡ takes (takes_all q heard) m
-unfolding takes_all
-takes-last q [] m = refl
-takes-last q (y ∷ ys) m = takes-last (takes q y) ys m
-
-notes_bodies-append : (q : Answers) (xs ys : List (List Change)) → notes_bodies q (xs ++ ys) ≡ notes_bodies (notes_bodies q xs) ys
-unfolding notes_bodies
-notes_bodies-append q [] ys = refl
-notes_bodies-append q (x ∷ xs) ys = notes_bodies-append (notes_all q x) xs ys
-
 -- after so many changes, when all that was heard is dropped at the end
 more : (q : Answers) (heard : List Heard) (xs : List Change) → cuts (takes_all (notes_all q xs) heard) ≡ after_all (cuts (takes_all q heard)) xs
-unfolding notes_all after_all after
+unfolding after
 more q heard [] = refl
 more q heard (x ∷ xs) =
     more (notes q x) heard xs ∙ ap (λ z. after_all z xs) (ap cuts (apart_all q x heard) ∙ cut_rises (takes_all q heard) x)
 
--- One body more.
-pub one_body : (seat : Seat) (records : List (List Change)) (heard : List Heard) (body : List Change) →
-    questions seat (records ++ body ∷ []) heard ≡ after_all (questions seat records heard) body
-unfolding questions notes_bodies
-one_body seat records heard body =
-    ap (λ z. cuts (takes_all z heard)) (notes_bodies-append (nothing seat) records (body ∷ [])) ∙ more (notes_bodies (nothing seat) records) heard body
+pub grown_body : (seat : Seat) (records : List (List Change)) (heard : List Heard) (body : List Change) →
+    grown seat (records ++ body ∷ []) heard ≡ after_all (grown seat records heard) body
+unfolding grown
+grown_body seat records heard body =
+    ap (λ xs. cuts (takes_all (notes_all (nothing seat) xs) heard)) (joined-push records body)
+    ∙ ap (λ z. cuts (takes_all z heard)) (fold-append notes (nothing seat) (joined records) body)
+    ∙ more (notes_all (nothing seat) (joined records)) heard body
 
--- One thing heard more.
-pub one_heard : (seat : Seat) (records : List (List Change)) (heard : List Heard) (m : Heard) →
-    questions seat records (heard ++ m ∷ []) ≡ hears (questions seat records heard) m
-unfolding questions hears
-one_heard seat records heard m =
-    ap cuts (takes-last (notes_bodies (nothing seat) records) heard m) ∙ cut_takes (takes_all (notes_bodies (nothing seat) records) heard) m
-
-pub more_heard : (seat : Seat) (records : List (List Change)) (heard others : List Heard) →
-    questions seat records (heard ++ others) ≡ hears_all (questions seat records heard) others
-unfolding hears_all
-more_heard seat records heard [] = ap (questions seat records) (append-nil heard)
-more_heard seat records heard (m ∷ ms) =
-    ap (questions seat records) (sym (append_assoc heard (m ∷ []) ms)) ∙ more_heard seat records (heard ++ m ∷ []) ms ∙ ap (λ z. hears_all z ms) (one_heard seat records heard m)
+pub grown_heard : (seat : Seat) (records : List (List Change)) (heard : List Heard) (m : Heard) →
+    grown seat records (heard ++ m ∷ []) ≡ hears (grown seat records heard) m
+unfolding grown hears
+grown_heard seat records heard m =
+    ap cuts (fold_push takes (notes_all (nothing seat) (joined records)) heard m) ∙ cut_takes (takes_all (notes_all (nothing seat) (joined records)) heard) m
