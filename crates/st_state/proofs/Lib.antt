@@ -1,3 +1,4 @@
 -- Lemmas.
 pub mod SlotsLaws
 pub mod SharesLaws
+pub mod OwnLaws

@@ -3,3 +3,4 @@ pub mod HereView
 pub mod Placed
 pub mod Writes
 pub mod SlotsView
+pub mod OwnView

@@ -3,7 +3,9 @@
 //! the questions of the duties, and each of its writes is one step of those answers.
 #![tactic(auto)]
 
+mod own;
 mod rings;
 mod slots;
 
+pub use own::Own;
 pub use slots::Slots;
