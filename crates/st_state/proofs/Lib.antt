@@ -2,3 +2,4 @@
 pub mod SlotsLaws
 pub mod SharesLaws
 pub mod OwnLaws
+pub mod HandLaws

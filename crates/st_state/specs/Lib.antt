@@ -4,3 +4,4 @@ pub mod Placed
 pub mod Writes
 pub mod SlotsView
 pub mod OwnView
+pub mod HandView

@@ -3,9 +3,11 @@
 //! the questions of the duties, and each of its writes is one step of those answers.
 #![tactic(auto)]
 
+mod hand;
 mod own;
 mod rings;
 mod slots;
 
+pub use hand::{Hand, Named, Words};
 pub use own::Own;
 pub use slots::Slots;
