@@ -5,3 +5,4 @@ pub mod Writes
 pub mod SlotsView
 pub mod OwnView
 pub mod HandView
+pub mod ClientsView

@@ -3,11 +3,15 @@
 //! the questions of the duties, and each of its writes is one step of those answers.
 #![tactic(auto)]
 
+mod clients;
 mod hand;
 mod own;
+mod pending;
 mod rings;
 mod slots;
 
+pub use clients::{Clients, LastRun};
 pub use hand::{Hand, Named, Words};
 pub use own::Own;
+pub use pending::Pending;
 pub use slots::Slots;
