@@ -2,21 +2,24 @@
 use Rattle.std.proofs.Common.{◌≡◌, ◌∙◌, ap, sym, ℕ, ◌+◌, ◌<◌, ◌≤◌, Bool, true, false, cond, nat_eq, nat_lt, nat_le, ◌&&◌, Option, Some, None, List, refl, arith}
 use Rattle.std.proofs.lemmas.Bool.{eqb-true}
 use Rattle.st_words.specs.declared.ids.SiteId.{SiteId}
+use Rattle.st_words.specs.declared.ids.View.{View}
+use Rattle.st_words.specs.declared.ids.LocalView.{LocalView}
 use Rattle.st_words.specs.declared.ids.Number.{Number}
 use Rattle.st_words.specs.declared.value.Value.{Value}
 use Rattle.st_words.specs.declared.statement.Statement.{Statement}
 use Rattle.st_words.specs.declared.statement.Statement.TheVariants.{Prepare, Proposal, Accept}
-use Rattle.st_message.specs.declared.change.Change.TheVariants.{Made}
+use Rattle.st_message.specs.declared.change.Change.TheVariants.{Made, Prepared, Accepted}
 use Rattle.st_tables.specs.Window.{kept}
+use Rattle.st_protocol.specs.Words.{Quorum}
 use Rattle.st_protocol.specs.Keeping.{open_if, or_else, higher}
 use Rattle.st_protocol.specs.State as slots_state
 use Rattle.st_protocol.specs.State.{backed_view, backed_local}
-use Rattle.st_protocol.specs.State.{Place, AtPrepare, AtProposal, AtAccept, Here, Sealing, Backed}
+use Rattle.st_protocol.specs.State.{open_place, Place, AtPrepare, AtProposal, AtAccept, Here, Sealing, Backed}
 use Rattle.st_protocol.specs.Growth.{slots_notes}
 use Rattle.st_state.specs.declared.slots.Slots.{Slots}
 use Rattle.st_state.specs.Placed.{is_at}
-use Rattle.st_state.specs.Writes.{PutsFirst}
-use Rattle.st_state.specs.SlotsView.{slots_of, shares_at}
+use Rattle.st_state.specs.Writes.{Puts, PutsFirst}
+use Rattle.st_state.specs.SlotsView.{slots_of, made_at, shares_at}
 
 -- ---- one entry
 
@@ -182,4 +185,57 @@ accept_made h slots leaf site n v ring above put =
       prepared = λ k. (prepared_stays h.executed slots.prepared k) i;
       accepted = λ k. (prepared_stays h.executed slots.accepted k) i;
       shares = λ p j. (shares_stay (h.leaf + 1) h slots p j) i;
+    }
+
+-- ---- an item is noted
+
+-- of what is put at a number, the higher stays
+higher_kept : (e n k : ℕ) (new old here : Option Backed) (x : Backed)
+    → new ≡ cond (nat_eq n k) (higher backed_view backed_local here (Some x)) old → (n ≡ k → here ≡ old) → e < n → (k ≤ e → old ≡ None)
+    → new ≡ open_if (nat_lt e k) (higher backed_view backed_local old (cond (nat_eq n k) (Some x) None))
+higher_kept e n k new old here x put same above low = by_test (nat_eq n k) refl
+  where
+    by_test : (b : Bool) → nat_eq n k ≡ b → new ≡ open_if (nat_lt e k) (higher backed_view backed_local old (cond (nat_eq n k) (Some x) None))
+    by_test true eb =
+        let nk : n ≡ k = eqb-true n k eb in
+        let is : new ≡ higher backed_view backed_local here (Some x) = put ∙ ap (λ c. cond c (higher backed_view backed_local here (Some x)) old) eb in
+        let in_reach : nat_lt e k ≡ true = grind (arith, nk, above) in
+        rw eb (rw in_reach (is ∙ ap (λ o. higher backed_view backed_local o (Some x)) (same nk)))
+    by_test false eb =
+        let is : new ≡ old = put ∙ ap (λ c. cond c (higher backed_view backed_local here (Some x)) old) eb in
+        let alone = higher_alone old in
+        rw eb (rw alone (grind (arith, is, low)))
+
+made_stays_at : (h : Here) (slots : Slots) (p : Place) → made_at h slots p ≡ open_if (open_place h p) (or_else (made_at h slots p) None)
+made_stays_at h slots (AtPrepare g l k) = prepares_stay h slots g l k
+made_stays_at h slots (AtProposal g l k) = proposals_stay h slots g l k
+made_stays_at h slots (AtAccept g k) = accepts_stay h slots g k
+
+abbrev HigherPut : ℕ → List (Option Backed) → List (Option Backed) → ℕ → Backed → Type 0
+HigherPut e old new n x = Puts e old new n (higher backed_view backed_local (kept e old n) (Some x))
+
+-- a Prepare of a number of the window was prepared
+pub prepared_noted : (h : Here) (slots : Slots) (site : SiteId) (view : View) (local : LocalView) (n : Number) (v : Value) (q : Quorum) (ring : List (Option Backed)) → h.executed < n.0
+    → HigherPut h.executed slots.prepared ring n.0 (record { view = view.0; local = local.0; value = v; quorum = q })
+    → slots_of h (record slots { prepared = ring }) ≡ slots_notes h (Prepared (Prepare site view local n v) q) (slots_of h slots)
+unfolding slots_of
+prepared_noted h slots site view local n v q ring above put =
+    λ i. record {
+      made = λ p. (made_stays_at h slots p) i;
+      prepared = λ k. (higher_kept h.executed n.0 k _ _ _ _ (put k) (ap (kept h.executed slots.prepared)) above (kept_low h.executed slots.prepared k)) i;
+      accepted = λ k. (prepared_stays h.executed slots.accepted k) i;
+      shares = (slots_of h slots).shares;
+    }
+
+-- a Proposal of a number of the window was accepted
+pub accepted_noted : (h : Here) (slots : Slots) (site : SiteId) (view : View) (local : LocalView) (n : Number) (v : Value) (q : Quorum) (ring : List (Option Backed)) → h.executed < n.0
+    → HigherPut h.executed slots.accepted ring n.0 (record { view = view.0; local = local.0; value = v; quorum = q })
+    → slots_of h (record slots { accepted = ring }) ≡ slots_notes h (Accepted (Proposal site view local n v) q) (slots_of h slots)
+unfolding slots_of
+accepted_noted h slots site view local n v q ring above put =
+    λ i. record {
+      made = λ p. (made_stays_at h slots p) i;
+      prepared = λ k. (prepared_stays h.executed slots.prepared k) i;
+      accepted = λ k. (higher_kept h.executed n.0 k _ _ _ _ (put k) (ap (kept h.executed slots.accepted)) above (kept_low h.executed slots.accepted k)) i;
+      shares = (slots_of h slots).shares;
     }

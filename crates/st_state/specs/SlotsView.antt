@@ -1,13 +1,15 @@
 -- The slots of the window, as the answers that they give.
-use Rattle.std.specs.Prelude.{ℕ, false, nat_eq, Option, None}
+use Rattle.std.specs.Prelude.{ℕ, false, nat_eq, Option, Some, None}
 use Rattle.st_words.specs.declared.statement.Statement.{Statement}
+use Rattle.st_words.specs.declared.statement.Statement.TheVariants.{Prepare, Proposal}
 use Rattle.st_seal.specs.declared.quorum.Signed.{Signed}
 use Rattle.st_message.specs.declared.change.Heard.{Heard}
 use Rattle.st_message.specs.declared.message.Message.TheVariants as messages
 use Rattle.st_tables.specs.Window.{kept}
+use Rattle.st_protocol.specs.Words.{Quorum}
 use Rattle.st_protocol.specs.Keeping.{open_if}
 use Rattle.st_protocol.specs.State as state
-use Rattle.st_protocol.specs.State.{Place, AtPrepare, AtProposal, AtAccept, Here, Sealing, Share}
+use Rattle.st_protocol.specs.State.{Place, AtPrepare, AtProposal, AtAccept, Here, Sealing, Backed, Share}
 use Rattle.st_state.specs.declared.slots.Slots.{Slots}
 use Rattle.st_state.specs.Placed.{is_at}
 use Rattle.st_state.specs.Writes.{among}
@@ -40,3 +42,9 @@ no_slots = record { made = λ p. None; prepared = λ n. None; accepted = λ n. N
 -- another server's share is heard
 abbrev pub heard_share : Statement → Signed → Heard
 heard_share s signed = record { own = false; message = messages.Share s signed }
+
+-- the item of a Prepare or a Proposal
+abbrev pub backed_by : Statement → Quorum → Option Backed
+backed_by (Prepare site view local number value) quorum = Some (record { view = view.0; local = local.0; value = value; quorum = quorum })
+backed_by (Proposal site view local number value) quorum = Some (record { view = view.0; local = local.0; value = value; quorum = quorum })
+backed_by _ quorum = None

@@ -1,11 +1,14 @@
-ghost use Rattle.std.specs.Prelude.{◌≡◌, ℕ, ◌+◌, ◌<◌, ◌≤◌, cond, nat_eq, Some, IfOk, OnOk, OnErr, IsOkUnless};
+ghost use Rattle.std.specs.Prelude.{◌≡◌, ℕ, ◌+◌, ◌<◌, ◌≤◌, true, cond, nat_eq, nat_lt, ◌||◌, ◌&&◌, Some, IfOk, OnOk, OnErr, IsOkUnless};
 ghost use Rattle.st_fields.specs.declared.error.WordsError.TheVariants as words;
 ghost use Rattle.std.specs.Option.{option_copied};
 ghost use Rattle.st_tables.specs.Entries.{entry};
-ghost use Rattle.st_protocol.specs.Keeping.{or_else};
-ghost use Rattle.st_state.specs.Writes.{PutsFirst, PutsAmong, among};
+ghost use Rattle.st_protocol.specs.Keeping.{given, or_else, higher};
+ghost use Rattle.st_protocol.specs.State.{backed_view, backed_local};
+ghost use Rattle.st_tables.specs.Window.{kept};
+ghost use Rattle.st_state.specs.Writes.{Puts, PutsFirst, PutsAmong, among};
 
 use st_fields::{Copied, Shared, WordsError};
+use st_message::Backed;
 use st_tables::{Ring, Table};
 use std::alloc::Global;
 
@@ -17,6 +20,28 @@ pub(crate) fn keep_first<T: Drop>(ring: &mut Ring<T>, base: u32, number: u32, it
 {
     if ring.get(base, number).is_none() {
         ring.set(number, Some(item));
+    }
+}
+
+/// Writes the item of a number of the window above `base`, unless there is one of as high a view and, at
+/// one view, as high a local view.
+pub(crate) fn keep_higher(ring: &mut Ring<Backed>, base: u32, number: u32, item: Shared<Backed>)
+    requires above { base < number }
+    requires below { number ≤ base + 16 }
+    ensures { Puts base ring.old ring.new number (higher backed_view backed_local (kept base ring.old number) (Some item)) }
+{
+    if is_below(ring.get(base, number), item.get()) {
+        ring.set(number, Some(item));
+    }
+}
+
+// Whether there is no item, or one of a lower view or, at one view, of a lower local view.
+fn is_below(old: Option<&Backed>, new: &Backed) -> bool
+    ensures { result ≡ given (option_copied old.entry) true (λ x. nat_lt x.view new.now.view || (nat_eq x.view new.now.view && nat_lt x.local new.now.local)) }
+{
+    match old {
+        Some(old) => old.view < new.view || (old.view == new.view && old.local < new.local),
+        None => true,
     }
 }
 
