@@ -6,3 +6,6 @@ pub mod CourseLaws
 pub mod DropLaws
 pub mod TextLaws
 pub mod SameLaws
+pub mod FieldLaws
+pub mod PlanLaws
+pub mod PlainLaws

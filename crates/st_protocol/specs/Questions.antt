@@ -17,8 +17,8 @@ use Rattle.st_message.specs.declared.message.ReportBody.{ReportBody}
 use Rattle.st_message.specs.declared.message.Message.{Message}
 use Rattle.st_message.specs.declared.message.Message.TheVariants as messages
 use Rattle.st_protocol.specs.Words.{Bytes, Quorum, site_of, index_of}
-use Rattle.st_protocol.specs.Keeping.{given, greatest, open_if, from, first_of, last_of, greatest_of, last_greatest_of, highest_of, most_of, count_of, joined, numbered}
-use Rattle.st_protocol.specs.State.{Place, AtAccept, Term, Seat, Here, Sealing, Backed, Share, Slots, Making, Run, Log, Pended, Vote, Asked, Votes, Held, Word, Hand, KeptViews, Completed, Own, Answers, at_place, at_vc, at_report, at_union, at_reply, backed_view, backed_local, pended_time, vote_view, asked_view, word_view, word_height, completed_view, completed_local, open_place, open_term, open_vc, open_number, open_at}
+use Rattle.st_protocol.specs.Keeping.{given, open_if, from, first_of, last_of, greatest_of, last_greatest_of, highest_of, most_of, count_of, joined, numbered}
+use Rattle.st_protocol.specs.State.{AtAccept, Term, Seat, Here, Sealing, Backed, Share, Slots, Making, Run, Log, Pended, Vote, Asked, Votes, Held, Word, Hand, KeptViews, Completed, Own, Answers, at_place, at_vc, at_report, at_union, at_reply, backed_view, backed_local, pended_time, vote_view, asked_view, word_view, word_height, completed_view, completed_local, open_place, open_term, open_vc, open_number, open_at}
 
 -- ---- what one change says
 

@@ -1,5 +1,5 @@
 -- The report of a replay, as text: what each event line came to, and where the event lines leave the servers and clients.
-use Rattle.std.specs.Prelude.{ℕ, ◌+◌, ◌/◌, ◌%◌, Bool, true, false, cond, zero, suc, nat_eq, nat_lt, Option, Some, None, List, [], ◌∷◌, ◌++◌, length, codes}
+use Rattle.std.specs.Prelude.{ℕ, ◌+◌, ◌/◌, ◌%◌, cond, zero, suc, nat_lt, Option, Some, None, List, [], ◌∷◌, ◌++◌, length, codes}
 use Rattle.std.specs.List.{flat_map}
 use Rattle.st_words.specs.declared.value.Value.{Value}
 use Rattle.st_words.specs.declared.value.Value.TheVariants as values
@@ -14,11 +14,10 @@ use Rattle.st_schedule.specs.declared.line.Line.{Line}
 use Rattle.st_schedule.specs.declared.done.Done.{Done}
 use Rattle.st_schedule.specs.declared.done.Done.TheVariants as done
 use Rattle.st_protocol.specs.Words.{Bytes}
-use Rattle.st_protocol.specs.Keeping.{given, joined}
 use Rattle.st_protocol.specs.State.{Here, Answers}
 use Rattle.st_protocol.specs.Questions.{questions}
 use Rattle.st_protocol.specs.Step.{all_below}
-use Rattle.st_protocol.specs.World.{Deployment, Stand, Running, Stopped, Full, Answered, Customer, World, empty, servers_of, seat_of, is_correct}
+use Rattle.st_protocol.specs.World.{Deployment, Stand, Running, Stopped, Full, Answered, Customer, World, servers_of, seat_of, is_correct}
 use Rattle.st_protocol.specs.Schedule.{step, goes_on}
 
 -- ---- numbers and bytes as text

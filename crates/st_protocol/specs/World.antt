@@ -2,7 +2,6 @@
 use Rattle.std.specs.Prelude.{ℕ, ◌+◌, ◌-◌, ◌*◌, Bool, true, false, cond, nat_eq, nat_lt, nat_le, ◌&&◌, ◌||◌, not, Option, Some, None, is_some, List, [], ◌∷◌, ◌++◌, length, bytes_eq}
 use Rattle.std.specs.List.{fold}
 use Rattle.st_words.specs.declared.ids.Who.{Who}
-use Rattle.st_words.specs.declared.ids.Who.TheVariants as parties
 use Rattle.st_words.specs.declared.statement.Statement.{Statement}
 use Rattle.st_words.specs.declared.statement.Statement.TheVariants.{Reply}
 use Rattle.st_seal.specs.declared.quorum.Signed.{Signed}
@@ -313,7 +312,7 @@ module _ {Wire : Type 0} (d : Deployment Wire) where
   -- ---- what a server's event comes to
 
   -- the seal of an own message is noted
-  abbrev pub notes_seal : ℕ → ℕ → World Wire → Message → World Wire
+  unfoldable pub notes_seal : ℕ → ℕ → World Wire → Message → World Wire
   notes_seal site index world m =
       given (handed site m) world (λ s. hands world (server_at site index) (leaf_within s (world.nodes site index).bodies) s)
 
@@ -350,7 +349,7 @@ module _ {Wire : Type 0} (d : Deployment Wire) where
   abbrev pub stands_stopped : Node → List Change → Node
   stands_stopped node changes = record node { stand = Stopped; apart = cond (nat_eq node.stop 4) (Some changes) None }
 
-  abbrev pub comes_to : World Wire → ℕ → ℕ → Plan → Stepped Wire
+  unfoldable pub comes_to : World Wire → ℕ → ℕ → Plan → Stepped Wire
   comes_to world site index plan =
       cond (is_full_by (world.nodes site index) plan)
       (stepped (with_node world site index (stands_full (world.nodes site index))) done.Full)
@@ -401,7 +400,7 @@ module _ {Wire : Type 0} (d : Deployment Wire) where
   awaits customer time = customer.waits && nat_eq time customer.time
 
   -- a Reply to this client, whose seals check
-  abbrev pub on_checked_reply : World Wire → ℕ → Customer → ℕ → ℕ → ℕ → Answered → Stepped Wire
+  unfoldable pub on_checked_reply : World Wire → ℕ → Customer → ℕ → ℕ → ℕ → Answered → Stepped Wire
   on_checked_reply world client customer site index time a =
       cond (awaits customer time)
       (cond (is_some (customer.replies site index)) (stepped world (done.Outcome (Ignored Seen)))
