@@ -1,5 +1,6 @@
 ghost use Rattle.std.specs.Prelude.{◌≡◌};
 ghost use Rattle.st_fields.specs.declared.error.WordsError.TheVariants as words;
+ghost use Rattle.st_fields.specs.declared.error.FieldError.TheVariants as fields;
 
 use std::alloc::{AllocError, AllocFailed};
 
@@ -26,5 +27,30 @@ impl<T: Drop> From<AllocFailed<T>> for WordsError {
 
     fn from(_: AllocFailed<T>) -> WordsError {
         WordsError::OutOfMemory
+    }
+}
+
+/// Why a field was not read.
+#[derive(Clone, Copy, Debug, PartialEq, Eq)]
+pub enum FieldError {
+    /// The field is missing, cut short or out of its range: `left` bytes were left where it begins.
+    Refused { left: usize },
+    /// Memory was refused.
+    OutOfMemory,
+}
+
+impl From<AllocError> for FieldError {
+    ghost from_gives = { λ _ e. e ≡ fields.OutOfMemory };
+
+    fn from(_: AllocError) -> FieldError {
+        FieldError::OutOfMemory
+    }
+}
+
+impl<T: Drop> From<AllocFailed<T>> for FieldError {
+    ghost from_gives = { λ _ e. e ≡ fields.OutOfMemory };
+
+    fn from(_: AllocFailed<T>) -> FieldError {
+        FieldError::OutOfMemory
     }
 }

@@ -36,6 +36,8 @@ pub enum Outcome {
 pub struct Output {
     pub message: Message,
     pub to: Scope,
+    /// The leaf of this server's own seal in the message, if it has one.
+    pub leaf: Option<u32>,
 }
 
 /// What a server hands out, in order.
@@ -56,6 +58,7 @@ impl Copied for Output {
         Ok(Output {
             message: self.message.copy(alloc)?,
             to: self.to,
+            leaf: self.leaf,
         })
     }
 }

@@ -1,5 +1,8 @@
+ghost use Rattle.std.specs.Prelude.{Some};
+
 use st_fields::{Copied, Same, WordsError};
 use std::alloc::Global;
+use std::fmt;
 
 /// Why a server ignores an event, with the values that show it. The first that holds, in this order,
 /// is the answer.
@@ -52,5 +55,38 @@ impl Copied for Reason {
 impl Same for Reason {
     fn same(&self, other: &Reason) -> bool {
         *self == *other
+    }
+}
+
+/// The reason's words, with its values in decimal.
+impl fmt::Display for Reason {
+    ghost use Rattle.st_message.specs.Words.{reason_words};
+
+    ghost output = { λ reason. Some (reason_words reason) };
+
+    #[tactic(auto, unfolding(crate::specs::Words::reason_words))]
+    fn fmt<W: fmt::Write>(&self, f: &mut fmt::Formatter<W>) -> fmt::Result {
+        match *self {
+            Reason::TooLong { bytes } => write!(f, "too-long {bytes}"),
+            Reason::Malformed { place } => write!(f, "malformed {place}"),
+            Reason::WrongDeployment { id } => write!(f, "wrong-deployment {id}"),
+            Reason::Unknown => write!(f, "unknown"),
+            Reason::BadSeal { place } => write!(f, "bad-seal {place}"),
+            Reason::NotBuilt => write!(f, "not-built"),
+            Reason::NotMine => write!(f, "not-mine"),
+            Reason::OtherView { view, local } => write!(f, "other-view {view} {local}"),
+            Reason::OutOfWindow { number, executed } => {
+                write!(f, "out-of-window {number} {executed}")
+            }
+            Reason::NotRep { index } => write!(f, "not-rep {index}"),
+            Reason::Bound { view } => write!(f, "bound {view}"),
+            Reason::Seen => write!(f, "seen"),
+            Reason::Waiting { held, wanted } => write!(f, "waiting {held} {wanted}"),
+            Reason::Below { number, base } => write!(f, "below {number} {base}"),
+            Reason::OtherValue => write!(f, "other-value"),
+            Reason::OldTime { last } => write!(f, "old-time {last}"),
+            Reason::SealsSpent { used } => write!(f, "seals-spent {used}"),
+            Reason::LogFull { number } => write!(f, "log-full {number}"),
+        }
     }
 }

@@ -302,7 +302,7 @@ questions_grow seat records heard =
             vc = λ t. recorded firsts (λ (q : Answers). q.making.vc t) (λ h. open_vc h t) (sealing_in (at_vc t)) (λ q x. refl) (λ h k r z. vc-rises h k r t z) (λ s. refl) (λ q m. refl) seat xs heard i;
             report = λ t. recorded firsts (λ (q : Answers). q.making.report t) (λ h. open_term h t) (sealing_in (at_report t)) (λ q x. refl) (λ h k r z. term-rises h k r t z) (λ s. refl) (λ q m. refl) seat xs heard i;
             union = λ t. recorded firsts (λ (q : Answers). q.making.union t) (λ h. open_term h t) (sealing_in (at_union t)) (λ q x. refl) (λ h k r z. term-rises h k r t z) (λ s. refl) (λ q m. refl) seat xs heard i;
-            reply = λ c t. recorded_for_good firsts (λ (q : Answers). q.making.reply c t) (sealing_in (at_reply c t)) (λ q x. refl) (λ s. refl) (λ q m. refl) seat xs heard i;
+            reply = λ n. recorded_for_good firsts (λ (q : Answers). q.making.reply n) (sealing_in (at_reply n)) (λ q x. refl) (λ s. refl) (λ q m. refl) seat xs heard i;
           };
       log =
           record {

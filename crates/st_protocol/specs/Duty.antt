@@ -70,7 +70,7 @@ sealing_of state (LocalReport site local index view base items) = state.making.r
 sealing_of state (GlobalReport site view index base items) = state.making.report (OfGlobal view.0)
 sealing_of state (LocalUnion site local greatest base items) = state.making.union (OfLocal local.0)
 sealing_of state (GlobalUnion site view base items) = state.making.union (OfGlobal view.0)
-sealing_of state (Reply site client time number result) = state.making.reply client.0 time
+sealing_of state (Reply site client time number result) = state.making.reply number.0
 sealing_of state (ClientUpdate update) = None
 
 abbrev pub signed_by : Pen → Answers → Statement → Signed
@@ -87,8 +87,8 @@ message_of (forms.Report quorums base) s signed = messages.Report (record { stat
 message_of forms.Reply s signed = messages.Reply s signed
 
 abbrev pub sealed : Pen → Answers → Out → Output
-sealed pen state (Make s form to) = record { message = message_of form s (signed_by pen state s); to = to }
-sealed pen state (Send m to) = record { message = m; to = to }
+sealed pen state (Make s form to) = record { message = message_of form s (signed_by pen state s); to = to; leaf = given (sealing_of state s) None (λ m. Some m.leaf) }
+sealed pen state (Send m to) = record { message = m; to = to; leaf = None }
 
 -- ---- the course of an event
 
@@ -220,7 +220,7 @@ of_bundle state (r ∷ rs) = check_bundle state.here (union_made state (report_o
 -- the part that takes a message
 abbrev pub of_kind : Answers → Message → Answer
 of_kind state (messages.Update u seal) =
-    on_update state.here state.pending (state.log.run.last u.client.0) (state.making.reply u.client.0 (state.log.run.last u.client.0)) u seal
+    on_update state.here state.pending (state.log.run.last u.client.0) (state.making.reply (state.log.run.place u.client.0)) u seal
 of_kind state (messages.Assign view local number value client_seal signed) =
     on_assign state.here state.slots (forced_of state.here state.unions) view.0 local.0 number.0 value client_seal signed
 of_kind state (messages.Share s signed) = of_share state s signed

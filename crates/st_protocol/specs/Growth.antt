@@ -54,7 +54,7 @@ making_notes here x making =
       vc = λ t. open_if (open_vc here t) (or_else (making.vc t) (sealing_in (at_vc t) x));
       report = λ t. open_if (open_term here t) (or_else (making.report t) (sealing_in (at_report t) x));
       union = λ t. open_if (open_term here t) (or_else (making.union t) (sealing_in (at_union t) x));
-      reply = λ c t. or_else (making.reply c t) (sealing_in (at_reply c t) x);
+      reply = λ n. or_else (making.reply n) (sealing_in (at_reply n) x);
     }
 
 abbrev pub unions_notes : Here → Change → (Term → ℕ → Option Held) → Term → ℕ → Option Held
@@ -189,7 +189,7 @@ nothing seat =
     record {
       here = fresh_here seat;
       slots = record { made = λ p. None; prepared = λ n. None; accepted = λ n. None; shares = λ p i. None };
-      making = record { vc = λ t. None; report = λ t. None; union = λ t. None; reply = λ c t. None };
+      making = record { vc = λ t. None; report = λ t. None; union = λ t. None; reply = λ n. None };
       log = record { run = no_run; proof = λ n. None };
       pending = λ c. None;
       votes = record { local = λ i. None; global = λ i. None; unions = λ t i. None; asked = λ s. None };

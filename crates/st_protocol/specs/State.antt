@@ -9,6 +9,7 @@ use Rattle.st_message.specs.declared.log.Entry.{Entry}
 use Rattle.st_message.specs.declared.message.SiteWord.{SiteWord}
 use Rattle.st_message.specs.declared.message.Proof.{Proof}
 use Rattle.st_message.specs.declared.message.ReportBody.{ReportBody}
+use Rattle.st_message.specs.declared.kept as kept
 use Rattle.st_protocol.specs.Words.{Bytes, Quorum, local_of}
 use Rattle.st_protocol.specs.Keeping.{given}
 
@@ -69,9 +70,9 @@ at_report t s = given (report_of s) false (same_term t)
 abbrev pub at_union : Term → Statement → Bool
 at_union t s = given (union_of s) false (same_term t)
 
-abbrev pub at_reply : ℕ → ℕ → Statement → Bool
-at_reply client time (Reply s c t n r) = nat_eq client c.0 && nat_eq time t
-at_reply client time _ = false
+abbrev pub at_reply : ℕ → Statement → Bool
+at_reply number (Reply s c t n r) = nat_eq number n.0
+at_reply number _ = false
 
 -- ---- the answers, grouped as the parts take them
 
@@ -95,21 +96,16 @@ pub record Here : Type 0 where
   pub leaf : ℕ
 
 -- A statement that was made, with its leaf.
-pub record Sealing : Type 0 where
-  pub leaf : ℕ
-  pub statement : Statement
+abbrev pub Sealing : Type 0
+Sealing = kept.Sealing.Sealing
 
 -- A value that stood in a view and a local view, and the Quorum that says so.
-pub record Backed : Type 0 where
-  pub view : ℕ
-  pub local : ℕ
-  pub value : Value
-  pub quorum : Quorum
+abbrev pub Backed : Type 0
+Backed = kept.Backed.Backed
 
 -- A server's seal on a statement, of which the server is known.
-pub record Share : Type 0 where
-  pub statement : Statement
-  pub seal : Bytes
+abbrev pub Share : Type 0
+Share = kept.Share.Share
 
 -- per number
 pub record Slots : Type 0 where
@@ -124,13 +120,15 @@ pub record Making : Type 0 where
   pub vc : Term → Option Sealing
   pub report : Term → Option Sealing
   pub union : Term → Option Sealing
-  -- per client and time
-  pub reply : ℕ → ℕ → Option Sealing
+  -- per number: the Reply to the update that ran there
+  pub reply : ℕ → Option Sealing
 
 -- What running values leaves.
 pub record Run : Type 0 where
   -- per client
   pub last : ℕ → ℕ
+  -- per client: the number at which its last update ran, 0 where none did
+  pub place : ℕ → ℕ
   pub entries : List Entry
   -- the operations that ran, in order: what the service is
   pub ran : List Bytes
@@ -141,19 +139,16 @@ pub record Log : Type 0 where
   pub proof : ℕ → Option Proof
 
 -- A client's update that waits to be ordered, with its seal.
-pub record Pended : Type 0 where
-  pub update : Update
-  pub seal : Bytes
+abbrev pub Pended : Type 0
+Pended = kept.Pended.Pended
 
 -- A share that asks for a view.
-pub record Vote : Type 0 where
-  pub view : ℕ
-  pub seal : Bytes
+abbrev pub Vote : Type 0
+Vote = kept.Vote.Vote
 
 -- A site's Quorum that asks for a view.
-pub record Asked : Type 0 where
-  pub view : ℕ
-  pub quorum : Quorum
+abbrev pub Asked : Type 0
+Asked = kept.Asked.Asked
 
 pub record Votes : Type 0 where
   -- per server of the site: the greatest local view, the greatest view
@@ -165,17 +160,12 @@ pub record Votes : Type 0 where
   pub asked : ℕ → Option Asked
 
 -- A union that is held.
-pub record Held : Type 0 where
-  pub greatest : ℕ
-  pub base : ℕ
-  pub items : List Item
-  pub quorum : Quorum
+abbrev pub Held : Type 0
+Held = kept.Held.Held
 
 -- An Accept certificate that is kept.
-pub record Word : Type 0 where
-  pub view : ℕ
-  pub value : Value
-  pub quorum : Quorum
+abbrev pub Word : Type 0
+Word = kept.Word.Word
 
 pub record Hand : Type 0 where
   -- per number: the highest view of an Accept certificate, and 1; 0 where there is none
@@ -185,14 +175,12 @@ pub record Hand : Type 0 where
   pub proof : ℕ → Option Proof
 
 -- Why the present local view and the present view were entered.
-pub record KeptViews : Type 0 where
-  pub local : Option Quorum
-  pub view : Option (List SiteWord)
+abbrev pub KeptViews : Type 0
+KeptViews = kept.KeptViews.KeptViews
 
 -- A certificate that this server completed.
-pub record Completed : Type 0 where
-  pub statement : Statement
-  pub quorum : Quorum
+abbrev pub Completed : Type 0
+Completed = kept.Completed.Completed
 
 -- What this server itself sent since its start: for a tick alone.
 pub record Own : Type 0 where

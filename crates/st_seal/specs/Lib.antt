@@ -1,2 +1,8 @@
 -- The definitions that contracts cite.
+pub mod Keyed
+pub mod KeyedLaws
+pub mod KeyedSchemes
+pub mod KeyedSealers
+pub mod Pen
 pub mod Rising
+pub mod Scheme

@@ -45,9 +45,15 @@ pub enum Statement {
         value: Value,
     },
     /// A server asks for this local view of its site.
-    LocalVc { site: SiteId, local: LocalView },
+    LocalVc {
+        site: SiteId,
+        local: LocalView,
+    },
     /// A server asks for this view.
-    GlobalVc { site: SiteId, view: View },
+    GlobalVc {
+        site: SiteId,
+        view: View,
+    },
     /// What a server had prepared when it entered the local view.
     LocalReport {
         site: SiteId,
@@ -89,7 +95,9 @@ pub enum Statement {
         result: Bytes,
     },
     /// A client asks for this update.
-    ClientUpdate { update: Update },
+    ClientUpdate {
+        update: Update,
+    },
 }
 
 impl Copied for Item {
@@ -228,6 +236,149 @@ impl Copied for Statement {
             Statement::ClientUpdate { update } => Ok(Statement::ClientUpdate {
                 update: update.copy(alloc)?,
             }),
+        }
+    }
+}
+
+impl Same for Statement {
+    fn same(&self, other: &Statement) -> bool {
+        match (self, other) {
+            (
+                Statement::Prepare {
+                    site: s,
+                    view: g,
+                    local: l,
+                    number: n,
+                    value: v,
+                },
+                Statement::Prepare {
+                    site,
+                    view,
+                    local,
+                    number,
+                    value,
+                },
+            ) => s == site && g == view && l == local && n == number && v.same(value),
+            (
+                Statement::Proposal {
+                    site: s,
+                    view: g,
+                    local: l,
+                    number: n,
+                    value: v,
+                },
+                Statement::Proposal {
+                    site,
+                    view,
+                    local,
+                    number,
+                    value,
+                },
+            ) => s == site && g == view && l == local && n == number && v.same(value),
+            (
+                Statement::Accept {
+                    site: s,
+                    view: g,
+                    number: n,
+                    value: v,
+                },
+                Statement::Accept {
+                    site,
+                    view,
+                    number,
+                    value,
+                },
+            ) => s == site && g == view && n == number && v.same(value),
+            (Statement::LocalVc { site: s, local: l }, Statement::LocalVc { site, local }) => {
+                s == site && l == local
+            }
+            (Statement::GlobalVc { site: s, view: g }, Statement::GlobalVc { site, view }) => {
+                s == site && g == view
+            }
+            (
+                Statement::LocalReport {
+                    site: s,
+                    local: l,
+                    index: i,
+                    view: g,
+                    base: b,
+                    items: t,
+                },
+                Statement::LocalReport {
+                    site,
+                    local,
+                    index,
+                    view,
+                    base,
+                    items,
+                },
+            ) => s == site && l == local && i == index && g == view && b == base && t.same(items),
+            (
+                Statement::GlobalReport {
+                    site: s,
+                    view: g,
+                    index: i,
+                    base: b,
+                    items: t,
+                },
+                Statement::GlobalReport {
+                    site,
+                    view,
+                    index,
+                    base,
+                    items,
+                },
+            ) => s == site && g == view && i == index && b == base && t.same(items),
+            (
+                Statement::LocalUnion {
+                    site: s,
+                    local: l,
+                    greatest: g,
+                    base: b,
+                    items: t,
+                },
+                Statement::LocalUnion {
+                    site,
+                    local,
+                    greatest,
+                    base,
+                    items,
+                },
+            ) => s == site && l == local && g == greatest && b == base && t.same(items),
+            (
+                Statement::GlobalUnion {
+                    site: s,
+                    view: g,
+                    base: b,
+                    items: t,
+                },
+                Statement::GlobalUnion {
+                    site,
+                    view,
+                    base,
+                    items,
+                },
+            ) => s == site && g == view && b == base && t.same(items),
+            (
+                Statement::Reply {
+                    site: s,
+                    client: c,
+                    time: t,
+                    number: n,
+                    result: r,
+                },
+                Statement::Reply {
+                    site,
+                    client,
+                    time,
+                    number,
+                    result,
+                },
+            ) => s == site && c == client && t == time && n == number && r.same(result),
+            (Statement::ClientUpdate { update: u }, Statement::ClientUpdate { update }) => {
+                u.same(update)
+            }
+            _ => false,
         }
     }
 }

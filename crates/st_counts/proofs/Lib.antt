@@ -1,0 +1,4 @@
+-- Lemmas.
+pub mod CountLaws
+pub mod MemberLaws
+pub mod QuorumLaws

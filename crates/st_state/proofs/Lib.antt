@@ -1,0 +1,3 @@
+-- Lemmas.
+pub mod SlotsLaws
+pub mod SharesLaws

@@ -1,0 +1,5 @@
+-- The definitions that contracts cite.
+pub mod HereView
+pub mod Placed
+pub mod Writes
+pub mod SlotsView
