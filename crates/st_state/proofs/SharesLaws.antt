@@ -10,7 +10,7 @@ use Rattle.st_seal.specs.declared.quorum.Signed.{Signed}
 use Rattle.st_tables.specs.Window.{kept}
 use Rattle.st_protocol.specs.Keeping.{open_if, or_else}
 use Rattle.st_protocol.specs.State.{Place, AtPrepare, AtProposal, AtAccept, Here, Share}
-use Rattle.st_protocol.specs.Questions.{slots_takes, slots_cuts}
+use Rattle.st_protocol.specs.Growth.{slots_takes, slots_cuts}
 use Rattle.st_state.specs.declared.slots.Slots.{Slots}
 use Rattle.st_state.specs.Placed.{is_at}
 use Rattle.st_state.specs.Writes.{among, PutsAmong}

@@ -8,10 +8,11 @@ use Rattle.st_words.specs.declared.statement.Statement.{Statement}
 use Rattle.st_words.specs.declared.statement.Statement.TheVariants.{Prepare, Proposal, Accept}
 use Rattle.st_message.specs.declared.change.Change.TheVariants.{Made}
 use Rattle.st_tables.specs.Window.{kept}
-use Rattle.st_protocol.specs.Keeping.{open_if, or_else}
+use Rattle.st_protocol.specs.Keeping.{open_if, or_else, higher}
 use Rattle.st_protocol.specs.State as slots_state
+use Rattle.st_protocol.specs.State.{backed_view, backed_local}
 use Rattle.st_protocol.specs.State.{Place, AtPrepare, AtProposal, AtAccept, Here, Sealing, Backed}
-use Rattle.st_protocol.specs.Questions.{slots_notes, higher}
+use Rattle.st_protocol.specs.Growth.{slots_notes}
 use Rattle.st_state.specs.declared.slots.Slots.{Slots}
 use Rattle.st_state.specs.Placed.{is_at}
 use Rattle.st_state.specs.Writes.{PutsFirst}
@@ -29,7 +30,7 @@ kept_stays : {A : Type 0} (e : ℕ) (xs : List (Option A)) (k : ℕ) → kept e 
 kept_stays e xs k = let low = kept_low e xs k in grind (arith, low)
 
 -- of two kept values, where there is only one
-higher_alone : (x : Option Backed) → higher x None ≡ x
+higher_alone : (x : Option Backed) → higher backed_view backed_local x None ≡ x
 higher_alone None = refl
 higher_alone (Some x) = refl
 
@@ -97,7 +98,7 @@ same_entry : {A : Type 0} (e : ℕ) (xs : List (Option A)) (n k : ℕ) → n ≡
 same_entry e xs n k = ap (kept e xs)
 
 -- what doesn't change when a statement is made
-prepared_stays : (e : ℕ) (xs : List (Option Backed)) (k : ℕ) → kept e xs k ≡ open_if (nat_lt e k) (higher (kept e xs k) None)
+prepared_stays : (e : ℕ) (xs : List (Option Backed)) (k : ℕ) → kept e xs k ≡ open_if (nat_lt e k) (higher backed_view backed_local (kept e xs k) None)
 prepared_stays e xs k = kept_stays e xs k ∙ ap (open_if (nat_lt e k)) (sym (higher_alone (kept e xs k)))
 
 prepares_stay : (h : Here) (slots : Slots) (g l k : ℕ) → open_if (is_at h g l) (kept h.executed slots.prepares k)

@@ -8,7 +8,7 @@ ghost use Rattle.st_words.specs.declared.value.Value.{Value};
 ghost use Rattle.st_words.specs.declared.statement.Statement.TheVariants as statements;
 ghost use Rattle.st_message.specs.declared.message.Proof.{Proof};
 ghost use Rattle.st_protocol.specs.State.{Here as At, AtPrepare, AtProposal, AtAccept};
-ghost use Rattle.st_protocol.specs.Questions.{here_after, slots_notes, slots_cuts, slots_takes};
+ghost use Rattle.st_protocol.specs.Growth.{here_after, slots_notes, slots_cuts, slots_takes};
 ghost use Rattle.st_state.specs.HereView.{Serve, here_of};
 ghost use Rattle.st_state.specs.Placed.{is_placed};
 ghost use Rattle.st_state.specs.SlotsView.{slots_of, no_slots, heard_share};
