@@ -4,7 +4,6 @@ pub mod GrowthLaws
 pub mod QuestionLaws
 pub mod CourseLaws
 pub mod DropLaws
-pub mod TextLaws
 pub mod SameLaws
 pub mod FieldLaws
 pub mod PlanLaws

@@ -9,5 +9,5 @@ mod worlds;
 pub use answers::{
     answers_of_longer_lists, answers_that_drop_nothing, answers_that_grow, log_that_runs,
 };
-pub use words::{numbers_as_text, tests_of_sameness};
+pub use words::tests_of_sameness;
 pub use worlds::{duty_of_a_passed_message, worlds_of_built_lines};
