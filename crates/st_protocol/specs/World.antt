@@ -1,6 +1,10 @@
 -- A whole deployment: its servers, its clients, what was sent, and what an event of a party does to it.
-use Rattle.std.specs.Prelude.{ℕ, ◌+◌, ◌-◌, ◌*◌, Bool, true, false, cond, nat_eq, nat_lt, nat_le, ◌&&◌, ◌||◌, not, Option, Some, None, is_some, List, [], ◌∷◌, ◌++◌, length, bytes_eq}
+use Rattle.std.specs.Prelude.{ℕ, ◌+◌, ◌-◌, ◌*◌, ◌^◌, Bool, true, false, cond, nat_eq, nat_lt, nat_le, ◌&&◌, ◌||◌, not, Option, Some, None, is_some, List, [], ◌∷◌, ◌++◌, length, bytes_eq}
 use Rattle.std.specs.List.{fold}
+use Rattle.st_words.specs.declared.deployment as words
+use Rattle.st_words.specs.declared.deployment.SealKind.{SealKind}
+use Rattle.st_words.specs.declared.deployment.SealKind.TheVariants as seal_kinds
+use Rattle.st_words.specs.declared.ids.ServerId.{ServerId}
 use Rattle.st_words.specs.declared.ids.Who.{Who}
 use Rattle.st_words.specs.declared.statement.Statement.{Statement}
 use Rattle.st_words.specs.declared.statement.Statement.TheVariants.{Reply}
@@ -82,6 +86,30 @@ pub record Deployment (Wire : Type 0) : Type 0 where
   -- per site and index
   pub faulty : ℕ → ℕ → Bool
   pub formats : Formats Wire
+
+-- whether a server is in a list
+unfoldable pub is_listed : List ServerId → ℕ → ℕ → Bool
+is_listed [] site index = false
+is_listed (x ∷ xs) site index = same_server x (a_server site index) || is_listed xs site index
+
+-- how many seals a party has
+abbrev pub capacity_of : SealKind → ℕ
+capacity_of seal_kinds.Keyed = 1048576
+capacity_of (seal_kinds.Hss height width levels) = 2 ^ (height * levels)
+
+-- A file's deployment, with its service and its formats.
+abbrev pub deployment_of : {Wire : Type 0} → words.Deployment.Deployment → (List Bytes → Bytes → Bytes) → Formats Wire → Deployment Wire
+deployment_of d serve formats =
+    record {
+      id = d.id;
+      sites = d.sites;
+      f = d.f;
+      clients = d.clients;
+      capacity = capacity_of d.seals;
+      serve = serve;
+      faulty = is_listed d.faulty;
+      formats = formats;
+    }
 
 -- What ends a world.
 pub data Fault : Type 0 where
