@@ -22,3 +22,29 @@ impl Copied for MadeSeal {
         })
     }
 }
+
+#[cfg(test)]
+mod tests {
+    use super::*;
+    use st_fields::Same;
+    use st_words::{ServerId, SiteId, View};
+    use std::test::*;
+
+    #[test]
+    fn a_copy_is_the_same_seal(rt: HostRuntime) -> Result<(), Fail> {
+        let alloc = rt.alloc();
+        let made = MadeSeal {
+            who: Who::Server(ServerId { site: 2, index: 1 }),
+            leaf: 9,
+            statement: Statement::GlobalVc {
+                site: SiteId(2),
+                view: View(4),
+            },
+        };
+        let copy = made.copy(alloc)?;
+        assert!(rt; copy.who == made.who);
+        assert_eq!(rt; copy.leaf, 9);
+        assert!(rt; copy.statement.same(&made.statement));
+        Ok(())
+    }
+}

@@ -1,7 +1,6 @@
 -- What each step of a course keeps holds at the end of it.
-use Rattle.std.proofs.Common.{◌≡◌, ◌+◌, Bool, true, false, cond, nat_eq, nat_lt, List, [], ◌∷◌, ◌++◌, refl, sym, ◌∙◌, ap, append_assoc, append-nil}
+use Rattle.std.proofs.Common.{◌≡◌, ◌+◌, Bool, true, false, cond, nat_eq, nat_lt, List, [], ◌∷◌, ◌++◌, sym, ◌∙◌, ap, append_assoc, append-nil}
 use Rattle.std.specs.Prelude.{◌&&◌, ◌%◌}
-use Rattle.std.specs.List.{fold}
 use Rattle.std.proofs.lemmas.List.Sums.{fold_push}
 use Rattle.st_words.specs.declared.value.Value.{Value}
 use Rattle.st_words.specs.declared.value.Value.TheVariants as values
@@ -19,8 +18,8 @@ use Rattle.st_message.specs.declared.step.Step.{Step}
 use Rattle.st_protocol.specs.Words.{a_reply, to_client_at}
 use Rattle.st_protocol.specs.State.{Seat, Answers}
 use Rattle.st_protocol.specs.Questions.{questions}
-use Rattle.st_protocol.specs.Growth.{after, hears, after_all}
-use Rattle.st_protocol.specs.Duty.{Pen, Course, begins, records, keeps, puts, emits, makes, sealed, reports_as, replies, carries_change, carries_changes, keeps_all, emits_all, carries, fills_up, course, statement_in}
+use Rattle.st_protocol.specs.Growth.{after, hears}
+use Rattle.st_protocol.specs.Duty.{Pen, Course, begins, records, keeps, puts, emits, makes, sealed, reports_as, reports, replies, carries_change, carries_changes, keeps_all, emits_all, carries, fills_up, course, statement_in}
 use Rattle.st_protocol.proofs.QuestionLaws.{one_body, one_heard}
 
 -- Q is kept by a change, by something heard, and by an output.
@@ -47,13 +46,14 @@ kept_if Q true v w h k = h
 kept_if Q false v w h k = k
 
 kept_replies : {Q : Course → Type 0} → IsKept Q → (pen : Pen) (was : Answers) (v : Value) (w : Course) → Q w → Q (replies pen was v w)
+unfolding replies
 kept_replies k pen was values.Noop w h = h
 kept_replies {Q = Q} k pen was (values.Update u) w h =
     kept_if Q (nat_lt (was.log.run.last u.client.0) u.time && nat_eq (u.client.0 % was.here.seat.sites) was.here.seat.site && nat_lt was.here.leaf was.here.seat.capacity) _ _
     (kept_makes k pen w (a_reply was.here.seat.site u.client.0 u.time (was.here.executed + 1) (was.here.seat.serve was.log.run.ran u.op)) forms.Reply (to_client_at u.client.0) h) h
 
 kept_change : {Q : Course → Type 0} → IsKept Q → (pen : Pen) (w : Course) (x : Change) → Q w → Q (carries_change pen w x)
-unfolding carries_change
+unfolding carries_change reports
 kept_change k pen w (EnterLocal y q) h = kept_reports k pen (records w (EnterLocal y q)) _ (k.records w (EnterLocal y q) h)
 kept_change k pen w (EnterGlobal y ss) h = kept_reports k pen (records w (EnterGlobal y ss)) _ (k.records w (EnterGlobal y ss) h)
 kept_change k pen w (Made n s) h = k.records w (Made n s) h

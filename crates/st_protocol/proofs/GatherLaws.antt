@@ -1,10 +1,10 @@
 -- What is gathered over a list, and what a fold that keeps it leaves.
-use Rattle.std.proofs.Common.{◌≡◌, ℕ, ◌+◌, Bool, true, false, cond, List, [], ◌∷◌, ◌++◌, refl, sym, ◌∙◌, ap, arith, append_assoc, append-nil}
+use Rattle.std.proofs.Common.{◌≡◌, ℕ, ◌+◌, List, [], ◌∷◌, ◌++◌, refl, sym, ◌∙◌, ap, arith, append_assoc, append-nil}
 use Rattle.std.specs.Prelude.{Option, Some, None, max}
 use Rattle.std.specs.List.{fold, flat_map}
 use Rattle.std.proofs.lemmas.Bool.Decides.{nat_tests}
 use Rattle.std.proofs.lemmas.List.Concat.{flat_map-append}
-use Rattle.st_protocol.specs.Keeping.{or_else, or_last, greatest, greatest_last, higher, open_if, gathered, joined}
+use Rattle.st_protocol.specs.Keeping.{or_else, or_last, greatest, greatest_last, higher, gathered, joined}
 
 -- A way to put two together, in which order doesn't matter for three, and none changes nothing.
 pub record Gathers {A : Type 0} (join : A → A → A) (none : A) : Type 0 where

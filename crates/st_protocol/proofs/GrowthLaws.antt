@@ -1,7 +1,6 @@
 -- How the answers grow: recording, hearing and dropping, two by two, and over lists.
-use Rattle.std.proofs.Common.{◌≡◌, ℕ, ◌+◌, ◌≤◌, Bool, true, false, cond, List, [], ◌∷◌, ◌++◌, refl, sym, ◌∙◌, ap, arith}
+use Rattle.std.proofs.Common.{◌≡◌, ℕ, ◌+◌, ◌≤◌, Bool, true, false, cond, List, [], ◌∷◌, ◌++◌, refl, ◌∙◌, ap, arith}
 use Rattle.std.specs.Prelude.{Option, Some, None, max}
-use Rattle.std.specs.List.{fold}
 use Rattle.std.proofs.lemmas.Bool.Decides.{nat_tests}
 use Rattle.std.proofs.lemmas.List.Sums.{fold-append, fold_push}
 use Rattle.st_words.specs.declared.value.Value.{Value}
@@ -12,7 +11,7 @@ use Rattle.st_message.specs.declared.change.Heard.{Heard}
 use Rattle.st_protocol.specs.Keeping.{or_else, or_last, greatest, greatest_last, open_if, from, joined}
 use Rattle.st_protocol.specs.State.{Place, AtPrepare, AtProposal, AtAccept, Term, OfLocal, OfGlobal, Seat, Here, Answers, Log, pended_time, vote_view, asked_view, word_view, word_height, completed_view, completed_local, open_place, open_term, open_vc, open_number, open_at, at_place, at_union}
 use Rattle.st_protocol.specs.Questions.{runs, last_after, taken_height, word_in, share_in, update_in, local_vote_in, global_vote_in, asked_in, report_in, own_report_in, proof_in, completed_in, is_global_vc, is_proposal_at, is_accept_at, if_other, if_own}
-use Rattle.st_protocol.specs.Growth.{here_after, log_after, notes, takes, cuts, nothing, notes_all, takes_all, grown, after, hears, after_all, hears_all}
+use Rattle.st_protocol.specs.Growth.{here_after, log_after, notes, takes, cuts, nothing, notes_all, takes_all, grown, after, hears, after_all}
 use Rattle.st_protocol.proofs.GatherLaws.{joined-push}
 
 -- ---- of what is kept and dropped

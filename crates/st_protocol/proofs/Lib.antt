@@ -4,5 +4,7 @@ pub mod GrowthLaws
 pub mod QuestionLaws
 pub mod CourseLaws
 pub mod DropLaws
-pub mod TextLaws
 pub mod SameLaws
+pub mod FieldLaws
+pub mod PlanLaws
+pub mod PlainLaws

@@ -1,20 +1,17 @@
 -- What is picked of the two lists is what the answers grow to; so one body more, and one thing heard more, is one step.
 use Rattle.std.proofs.Common.{◌≡◌, ℕ, ◌+◌, ◌-◌, Bool, true, false, cond, zero, suc, nat_eq, nat_lt, List, [], ◌∷◌, ◌++◌, length, refl, sym, ◌∙◌, ap, subst, arith, append_assoc, append-nil}
 use Rattle.std.specs.Prelude.{Option, Some, None, max, slice_get}
-use Rattle.std.specs.List.{fold, flat_map}
 use Rattle.std.proofs.lemmas.Bool.Decides.{nat_tests}
-use Rattle.std.proofs.lemmas.List.Sums.{fold-append}
-use Rattle.st_words.specs.declared.value.Value.{Value}
 use Rattle.st_message.specs.declared.change.Change.{Change}
 use Rattle.st_message.specs.declared.change.Change.TheVariants.{EnterLocal, EnterGlobal, Made, Prepared, Accepted, Union, Executed}
 use Rattle.st_message.specs.declared.change.Heard.{Heard}
 use Rattle.st_message.specs.declared.message.SiteWord.{SiteWord}
 use Rattle.st_message.specs.declared.message.Proof.{Proof}
 use Rattle.st_protocol.specs.Words.{Quorum}
-use Rattle.st_protocol.specs.Keeping.{given, or_else, or_last, greatest, greatest_last, higher, open_if, from, gathered, joined, numbered}
-use Rattle.st_protocol.specs.State.{Place, Term, Seat, Here, Answers, Asked, KeptViews, backed_view, backed_local, pended_time, vote_view, asked_view, word_view, word_height, completed_view, completed_local, open_place, open_term, open_vc, open_number, open_at, at_place, at_vc, at_report, at_union, at_reply}
-use Rattle.st_protocol.specs.Questions.{view_entered, local_entered, is_made, is_executed, Entered, entered_view, entering, entering_local, sealing_in, prepared_in, accepted_in, held_in, proofs_by, proofs_in, values_by, executed_in, runs, run_on, no_run, taken, owned, share_in, local_vote_in, global_vote_in, asked_in, update_in, report_in, own_report_in, word_in, taken_height, proof_in, completed_in, is_global_vc, is_proposal_at, is_accept_at, here_of, questions}
-use Rattle.st_protocol.specs.Growth.{here_after, log_after, words_after, notes, takes, cuts, nothing, notes_all, takes_all, grown, after_all, hears, hears_all}
+use Rattle.st_protocol.specs.Keeping.{given, greatest, open_if, from, gathered, joined, numbered}
+use Rattle.st_protocol.specs.State.{Seat, Here, Answers, Asked, KeptViews, backed_view, backed_local, pended_time, vote_view, asked_view, word_view, word_height, completed_view, completed_local, open_place, open_term, open_vc, open_number, open_at, at_place, at_vc, at_report, at_union, at_reply}
+use Rattle.st_protocol.specs.Questions.{view_entered, local_entered, is_made, is_executed, Entered, entered_view, entering, entering_local, sealing_in, prepared_in, accepted_in, held_in, proofs_in, executed_in, run_on, no_run, taken, owned, share_in, local_vote_in, global_vote_in, asked_in, update_in, report_in, own_report_in, word_in, taken_height, proof_in, completed_in, is_global_vc, is_proposal_at, is_accept_at, here_of, questions}
+use Rattle.st_protocol.specs.Growth.{here_after, words_after, notes, takes, cuts, nothing, notes_all, takes_all, grown, after_all, hears, hears_all}
 use Rattle.st_protocol.proofs.GatherLaws.{Gathers, firsts, lasts, greatests, last_greatests, highers, mosts, sums, fold-gathered, fold-keeps}
 use Rattle.st_protocol.proofs.GrowthLaws.{Rises, rises, open-step, place-rises, term-rises, vc-rises, number-rises, grown_body, grown_heard}
 

@@ -1,8 +1,9 @@
 -- The tests of sameness are true exactly of equal things.
-use Rattle.std.proofs.Common.{◌≡◌, ℕ, Bool, true, false, nat_eq, List, [], ◌∷◌, refl, sym, ◌∙◌, ap}
-use Rattle.std.specs.Prelude.{◌&&◌, bytes_eq}
-use Rattle.std.specs.Bool.{Decides}
-use Rattle.std.proofs.lemmas.Bool.Decides.{Decides-and, Decides-like, Decides-eqb}
+use Rattle.std.proofs.Common.{◌≡◌, Bool, nat_eq, List, [], ◌∷◌, refl, ap}
+use Rattle.std.specs.Prelude.{◌&&◌}
+use Rattle.std.specs.Prelude.{◌↔◌}
+use Rattle.std.specs.Bool.{Decides, IsTrue}
+use Rattle.std.proofs.lemmas.Bool.Decides.{Decides-and, Decides-like, Decides-eqb, same_from_decides}
 use Rattle.std.proofs.lemmas.Slice.Eq.{bytes_eq-Decides}
 use Rattle.st_words.specs.declared.ids.ServerId.{ServerId}
 use Rattle.st_words.specs.declared.ids.Who.{Who}
@@ -99,3 +100,23 @@ same_statement-Decides (Reply s c t n r) (Reply s2 c2 t2 n2 r2) =
     (Decides-eqb s.0 s2.0 ⊗ Decides-eqb c.0 c2.0 ⊗ Decides-eqb t t2 ⊗ Decides-eqb n.0 n2.0 ⊗ bytes_eq-Decides r r2)
 same_statement-Decides (ClientUpdate a) (ClientUpdate b) = Decides-like (same_update a b) (ap ClientUpdate) (λ e. cc) (same_update-Decides a b)
 same_statement-Decides _ _ = (λ e. cc, λ e. cc)
+
+-- ---- a bool that is true exactly of equal things is the test
+
+pub same_update_by : (a b : Update) (r : Bool) → (IsTrue r ↔ (a ≡ b)) → r ≡ same_update a b
+same_update_by a b r h = same_from_decides r (same_update a b) h (same_update-Decides a b)
+
+pub same_value_by : (a b : Value) (r : Bool) → (IsTrue r ↔ (a ≡ b)) → r ≡ same_value a b
+same_value_by a b r h = same_from_decides r (same_value a b) h (same_value-Decides a b)
+
+pub same_items_by : (a b : List Item) (r : Bool) → (IsTrue r ↔ (a ≡ b)) → r ≡ same_items a b
+same_items_by a b r h = same_from_decides r (same_items a b) h (same_items-Decides a b)
+
+pub same_server_by : (a b : ServerId) (r : Bool) → (IsTrue r ↔ (a ≡ b)) → r ≡ same_server a b
+same_server_by a b r h = same_from_decides r (same_server a b) h (same_server-Decides a b)
+
+pub same_who_by : (a b : Who) (r : Bool) → (IsTrue r ↔ (a ≡ b)) → r ≡ same_who a b
+same_who_by a b r h = same_from_decides r (same_who a b) h (same_who-Decides a b)
+
+pub same_statement_by : (a b : Statement) (r : Bool) → (IsTrue r ↔ (a ≡ b)) → r ≡ same_statement a b
+same_statement_by a b r h = same_from_decides r (same_statement a b) h (same_statement-Decides a b)

@@ -135,11 +135,11 @@ reports_as pen way o =
 abbrev pub base_proof : Answers → Option Proof
 base_proof state = cond (nat_eq state.here.executed 0) None (state.log.proof state.here.executed)
 
-abbrev pub reports : Pen → Bool → Course → Course
+unfoldable pub reports : Pen → Bool → Course → Course
 reports pen global way = reports_as pen way (make_report way.now.here way.now.slots (base_proof way.now) global)
 
 -- The Reply of an update that ran, where this is its client's home and a leaf is left: `was` are the answers before.
-abbrev pub replies : Pen → Answers → Value → Course → Course
+unfoldable pub replies : Pen → Answers → Value → Course → Course
 replies pen was values.Noop way = way
 replies pen was (values.Update u) way =
     cond

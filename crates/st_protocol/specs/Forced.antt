@@ -1,5 +1,5 @@
 -- What unions say: whether enough of them are held, the base, and the values that they force.
-use Rattle.std.specs.Prelude.{ℕ, ◌+◌, max, Bool, true, false, cond, zero, suc, nat_eq, nat_lt, nat_le, ◌&&◌, not, Option, Some, None, is_some, List, [], ◌∷◌}
+use Rattle.std.specs.Prelude.{ℕ, ◌+◌, max, Bool, false, cond, zero, suc, nat_eq, nat_lt, nat_le, ◌&&◌, not, Option, Some, None, is_some, List, [], ◌∷◌}
 use Rattle.st_words.specs.declared.deployment.TheConstants.{WINDOW}
 use Rattle.st_words.specs.declared.value.Value.{Value}
 use Rattle.st_words.specs.declared.statement.Item.{Item}

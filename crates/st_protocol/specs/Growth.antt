@@ -1,5 +1,5 @@
 -- How the answers grow: by a change that is recorded, by something that is heard, and by dropping what is left behind.
-use Rattle.std.specs.Prelude.{ℕ, ◌+◌, max, Bool, cond, nat_eq, nat_lt, Option, Some, None, List}
+use Rattle.std.specs.Prelude.{ℕ, ◌+◌, max, cond, nat_eq, nat_lt, Option, Some, None, List}
 use Rattle.std.specs.List.{fold}
 use Rattle.st_message.specs.declared.change.Change.{Change}
 use Rattle.st_message.specs.declared.change.Change.TheVariants.{EnterLocal, EnterGlobal, Made, Prepared, Accepted, Union, Executed}

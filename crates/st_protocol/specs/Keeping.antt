@@ -1,5 +1,5 @@
 -- Ways to keep one of two, to drop what is kept, and to gather over a list.
-use Rattle.std.specs.Prelude.{ℕ, ◌+◌, ◌-◌, max, Bool, true, false, cond, nat_eq, nat_lt, nat_le, ◌&&◌, ◌||◌, Option, Some, None, List, [], ◌∷◌, slice_get}
+use Rattle.std.specs.Prelude.{ℕ, ◌+◌, ◌-◌, max, Bool, cond, nat_eq, nat_lt, nat_le, ◌&&◌, ◌||◌, Option, Some, None, List, [], ◌∷◌, slice_get}
 use Rattle.std.specs.List.{flat_map}
 
 -- ---- one of two

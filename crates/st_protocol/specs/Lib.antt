@@ -19,3 +19,4 @@ pub mod Schedule
 pub mod Certificates
 pub mod Flat
 pub mod Report
+pub mod Plain

@@ -1,5 +1,5 @@
 -- A number is ordered: Proposals, Accepts, order proofs, and what is in hand.
-use Rattle.std.specs.Prelude.{ℕ, ◌+◌, Bool, true, false, cond, zero, suc, nat_eq, nat_lt, nat_le, ◌&&◌, ◌||◌, not, Option, Some, None, is_some, List, [], ◌∷◌, take}
+use Rattle.std.specs.Prelude.{ℕ, ◌+◌, Bool, false, cond, zero, suc, nat_eq, nat_lt, nat_le, ◌&&◌, ◌||◌, not, Option, Some, None, is_some, List, [], ◌∷◌, take}
 use Rattle.st_words.specs.declared.deployment.TheConstants.{WINDOW}
 use Rattle.st_words.specs.declared.value.Value.{Value}
 use Rattle.st_seal.specs.declared.quorum.Signed.{Signed}

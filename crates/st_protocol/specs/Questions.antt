@@ -1,6 +1,6 @@
 -- What a server's records and what it heard answer to the questions of its duties: each answer is what is picked
 -- of the two lists, less what the present state has left behind.
-use Rattle.std.specs.Prelude.{length, ℕ, ◌+◌, Bool, true, false, cond, nat_eq, nat_lt, ◌&&◌, Option, Some, None, List, [], ◌∷◌, ◌++◌}
+use Rattle.std.specs.Prelude.{ℕ, ◌+◌, Bool, true, false, cond, nat_eq, nat_lt, ◌&&◌, Option, Some, None, List, [], ◌∷◌, ◌++◌, length}
 use Rattle.std.specs.List.{flat_map, fold}
 use Rattle.st_words.specs.declared.value.Value.{Value}
 use Rattle.st_words.specs.declared.value.Value.TheVariants as values
@@ -17,8 +17,8 @@ use Rattle.st_message.specs.declared.message.ReportBody.{ReportBody}
 use Rattle.st_message.specs.declared.message.Message.{Message}
 use Rattle.st_message.specs.declared.message.Message.TheVariants as messages
 use Rattle.st_protocol.specs.Words.{Bytes, Quorum, site_of, index_of}
-use Rattle.st_protocol.specs.Keeping.{given, greatest, open_if, from, first_of, last_of, greatest_of, last_greatest_of, highest_of, most_of, count_of, joined, numbered}
-use Rattle.st_protocol.specs.State.{Place, AtAccept, Term, Seat, Here, Sealing, Backed, Share, Slots, Making, Run, Log, Pended, Vote, Asked, Votes, Held, Word, Hand, KeptViews, Completed, Own, Answers, at_place, at_vc, at_report, at_union, at_reply, backed_view, backed_local, pended_time, vote_view, asked_view, word_view, word_height, completed_view, completed_local, open_place, open_term, open_vc, open_number, open_at}
+use Rattle.st_protocol.specs.Keeping.{given, open_if, from, first_of, last_of, greatest_of, last_greatest_of, highest_of, most_of, count_of, joined, numbered}
+use Rattle.st_protocol.specs.State.{AtAccept, Term, Seat, Here, Sealing, Backed, Share, Slots, Making, Run, Log, Pended, Vote, Asked, Votes, Held, Word, Hand, KeptViews, Completed, Own, Answers, at_place, at_vc, at_report, at_union, at_reply, backed_view, backed_local, pended_time, vote_view, asked_view, word_view, word_height, completed_view, completed_local, open_place, open_term, open_vc, open_number, open_at}
 
 -- ---- what one change says
 
@@ -110,15 +110,20 @@ abbrev pub ops_of : (ℕ → ℕ) → Value → List Bytes
 ops_of last values.Noop = []
 ops_of last (values.Update u) = cond (nat_lt (last u.client.0) u.time) (u.op ∷ []) []
 
--- One value is run.
 -- whether running a value runs an update of the client
 abbrev pub runs_for : (ℕ → ℕ) → Value → ℕ → Bool
 runs_for last values.Noop c = false
 runs_for last (values.Update u) c = nat_eq u.client.0 c && nat_lt (last c) u.time
 
+-- One value is run.
 unfoldable pub runs : (List Bytes → Bytes → Bytes) → Run → Value → Run
 runs serve run v =
-    record { last = last_after run.last v; place = λ c. cond (runs_for run.last v c) (length run.entries + 1) (run.place c); entries = run.entries ++ record { value = v; ran = ran_by serve run v } ∷ []; ran = run.ran ++ ops_of run.last v }
+    record {
+      last = last_after run.last v;
+      place = λ c. cond (runs_for run.last v c) (length run.entries + 1) (run.place c);
+      entries = run.entries ++ record { value = v; ran = ran_by serve run v } ∷ [];
+      ran = run.ran ++ ops_of run.last v;
+    }
 
 -- The run of a log.
 abbrev pub run_on : (List Bytes → Bytes → Bytes) → Run → List Value → Run

@@ -1,5 +1,5 @@
 -- A server asks for what it lacks, and is answered.
-use Rattle.std.specs.Prelude.{ℕ, ◌+◌, ◌-◌, min, Bool, cond, nat_eq, nat_lt, nat_le, ◌&&◌, not, Option, Some, None, List, [], ◌∷◌, ◌++◌}
+use Rattle.std.specs.Prelude.{ℕ, ◌+◌, ◌-◌, min, cond, nat_eq, nat_lt, nat_le, ◌&&◌, not, Option, List, [], ◌∷◌, ◌++◌}
 use Rattle.st_words.specs.declared.deployment.TheConstants.{WINDOW}
 use Rattle.st_words.specs.declared.ids.ServerId.{ServerId}
 use Rattle.st_message.specs.declared.message.Proof.{Proof}

@@ -81,7 +81,7 @@ timeout_event false = LocalTimeout
 timeout_event true = GlobalTimeout
 
 module _ {Wire : Type 0} (d : Deployment Wire) where
-  abbrev pub drops : World Wire → (Pair → Bool) → Stepped Wire
+  unfoldable pub drops : World Wire → (Pair → Bool) → Stepped Wire
   drops world test =
       stepped (with_waiting world (without test world.waiting)) (done.Dropped (length world.waiting - length (without test world.waiting)))
 
@@ -89,7 +89,7 @@ module _ {Wire : Type 0} (d : Deployment Wire) where
   counts x st = record { world = st.world; pairs = x.pairs + 1; did = x.did + did_by st.done; ignored = x.ignored + ignored_by st.done }
 
   -- the oldest pair is delivered, if there is one
-  abbrev pub flows_first : Flowing Wire → List Pair → Flowing Wire
+  unfoldable pub flows_first : Flowing Wire → List Pair → Flowing Wire
   flows_first x [] = x
   flows_first x (p ∷ ps) =
       given (slice_get x.world.sent p.message) x (λ wire. counts x (delivers d (with_waiting x.world ps) p.to wire))
@@ -102,7 +102,7 @@ module _ {Wire : Type 0} (d : Deployment Wire) where
   flowed x = stepped x.world (done.Flowed x.pairs x.did x.ignored)
 
   -- a client seals its next update: the one of time t with leaf t-1
-  abbrev pub submits : World Wire → ℕ → Bytes → Stepped Wire
+  unfoldable pub submits : World Wire → ℕ → Bytes → Stepped Wire
   submits world client op =
       let used : ℕ = (world.customers client).time in
       let update : Update = an_update client (used + 1) op in
@@ -128,12 +128,12 @@ module _ {Wire : Type 0} (d : Deployment Wire) where
   client_seal_of world (values.Update u) =
       cond (has_made world.made (parties.Client u.client) (ClientUpdate u)) (d.formats.seal (parties.Client u.client) (u.time - 1) (ClientUpdate u)) []
 
-  abbrev pub then_assigns : World Wire → Statement → Signed → World Wire
+  unfoldable pub then_assigns : World Wire → Statement → Signed → World Wire
   then_assigns world (Prepare site view local number value) signed =
       sends_to d world (d.formats.encode (messages.Assign view local number value (client_seal_of world value) signed)) []
   then_assigns world s signed = world
 
-  abbrev pub seals : World Wire → ℕ → ℕ → Statement → Stepped Wire
+  unfoldable pub seals : World Wire → ℕ → ℕ → Statement → Stepped Wire
   seals world site index s =
       let signed : Signed = record { index = index; seal = d.formats.seal (server_at site index) (world.leaves site index) s } in
       stepped

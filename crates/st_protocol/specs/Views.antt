@@ -1,5 +1,5 @@
 -- How a local view and a view are asked for and entered.
-use Rattle.std.specs.Prelude.{ℕ, ◌+◌, Bool, true, false, cond, nat_eq, nat_le, ◌||◌, Option, Some, None, is_some, List, [], ◌∷◌}
+use Rattle.std.specs.Prelude.{ℕ, ◌+◌, Bool, false, cond, nat_eq, nat_le, ◌||◌, Option, Some, None, is_some, List, [], ◌∷◌}
 use Rattle.st_words.specs.declared.statement.Statement.{Statement}
 use Rattle.st_seal.specs.declared.quorum.Signed.{Signed}
 use Rattle.st_message.specs.declared.message.SiteWord.{SiteWord}

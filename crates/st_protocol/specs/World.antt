@@ -1,8 +1,11 @@
 -- A whole deployment: its servers, its clients, what was sent, and what an event of a party does to it.
-use Rattle.std.specs.Prelude.{ℕ, ◌+◌, ◌-◌, ◌*◌, Bool, true, false, cond, nat_eq, nat_lt, nat_le, ◌&&◌, ◌||◌, not, Option, Some, None, is_some, List, [], ◌∷◌, ◌++◌, length, bytes_eq}
+use Rattle.std.specs.Prelude.{ℕ, ◌+◌, ◌-◌, ◌*◌, ◌^◌, Bool, true, false, cond, nat_eq, nat_lt, nat_le, ◌&&◌, ◌||◌, not, Option, Some, None, is_some, List, [], ◌∷◌, ◌++◌, length, bytes_eq}
 use Rattle.std.specs.List.{fold}
+use Rattle.st_words.specs.declared.deployment as words
+use Rattle.st_words.specs.declared.deployment.SealKind.{SealKind}
+use Rattle.st_words.specs.declared.deployment.SealKind.TheVariants as seal_kinds
+use Rattle.st_words.specs.declared.ids.ServerId.{ServerId}
 use Rattle.st_words.specs.declared.ids.Who.{Who}
-use Rattle.st_words.specs.declared.ids.Who.TheVariants as parties
 use Rattle.st_words.specs.declared.statement.Statement.{Statement}
 use Rattle.st_words.specs.declared.statement.Statement.TheVariants.{Reply}
 use Rattle.st_seal.specs.declared.quorum.Signed.{Signed}
@@ -83,6 +86,30 @@ pub record Deployment (Wire : Type 0) : Type 0 where
   -- per site and index
   pub faulty : ℕ → ℕ → Bool
   pub formats : Formats Wire
+
+-- whether a server is in a list
+unfoldable pub is_listed : List ServerId → ℕ → ℕ → Bool
+is_listed [] site index = false
+is_listed (x ∷ xs) site index = same_server x (a_server site index) || is_listed xs site index
+
+-- how many seals a party has
+abbrev pub capacity_of : SealKind → ℕ
+capacity_of seal_kinds.Keyed = 1048576
+capacity_of (seal_kinds.Hss height width levels) = 2 ^ (height * levels)
+
+-- A file's deployment, with its service and its formats.
+abbrev pub deployment_of : {Wire : Type 0} → words.Deployment.Deployment → (List Bytes → Bytes → Bytes) → Formats Wire → Deployment Wire
+deployment_of d serve formats =
+    record {
+      id = d.id;
+      sites = d.sites;
+      f = d.f;
+      clients = d.clients;
+      capacity = capacity_of d.seals;
+      serve = serve;
+      faulty = is_listed d.faulty;
+      formats = formats;
+    }
 
 -- What ends a world.
 pub data Fault : Type 0 where
@@ -313,7 +340,7 @@ module _ {Wire : Type 0} (d : Deployment Wire) where
   -- ---- what a server's event comes to
 
   -- the seal of an own message is noted
-  abbrev pub notes_seal : ℕ → ℕ → World Wire → Message → World Wire
+  unfoldable pub notes_seal : ℕ → ℕ → World Wire → Message → World Wire
   notes_seal site index world m =
       given (handed site m) world (λ s. hands world (server_at site index) (leaf_within s (world.nodes site index).bodies) s)
 
@@ -350,7 +377,7 @@ module _ {Wire : Type 0} (d : Deployment Wire) where
   abbrev pub stands_stopped : Node → List Change → Node
   stands_stopped node changes = record node { stand = Stopped; apart = cond (nat_eq node.stop 4) (Some changes) None }
 
-  abbrev pub comes_to : World Wire → ℕ → ℕ → Plan → Stepped Wire
+  unfoldable pub comes_to : World Wire → ℕ → ℕ → Plan → Stepped Wire
   comes_to world site index plan =
       cond (is_full_by (world.nodes site index) plan)
       (stepped (with_node world site index (stands_full (world.nodes site index))) done.Full)
@@ -401,7 +428,7 @@ module _ {Wire : Type 0} (d : Deployment Wire) where
   awaits customer time = customer.waits && nat_eq time customer.time
 
   -- a Reply to this client, whose seals check
-  abbrev pub on_checked_reply : World Wire → ℕ → Customer → ℕ → ℕ → ℕ → Answered → Stepped Wire
+  unfoldable pub on_checked_reply : World Wire → ℕ → Customer → ℕ → ℕ → ℕ → Answered → Stepped Wire
   on_checked_reply world client customer site index time a =
       cond (awaits customer time)
       (cond (is_some (customer.replies site index)) (stepped world (done.Outcome (Ignored Seen)))

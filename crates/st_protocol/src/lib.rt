@@ -2,8 +2,12 @@
 //! contract of a function that has nothing to do.
 #![tactic(auto)]
 
-mod laws;
+mod answers;
+mod words;
+mod worlds;
 
-pub use laws::{
+pub use answers::{
     answers_of_longer_lists, answers_that_drop_nothing, answers_that_grow, log_that_runs,
 };
+pub use words::tests_of_sameness;
+pub use worlds::{duty_of_a_passed_message, worlds_of_built_lines};

@@ -1,5 +1,5 @@
 use Rattle.st_protocol.proofs.DropLaws.{questions_cut, made_drops_nothing, prepared_drops_nothing, accepted_drops_nothing, union_drops_nothing}
-use Rattle.st_protocol.proofs.laws.answers_that_drop_nothing.Goals as goal
+use Rattle.st_protocol.proofs.answers.answers_that_drop_nothing.Goals as goal
 
 pub returns-clause-again : goal.returns-clause-again
 returns-clause-again c = questions_cut

@@ -5,7 +5,7 @@ use Rattle.std.proofs.lemmas.List.Concat.{flat_map-append}
 use Rattle.st_protocol.specs.Keeping.{joined}
 use Rattle.st_protocol.specs.Questions.{values_by, executed_in, executed_values, runs, questions}
 use Rattle.st_protocol.proofs.GatherLaws.{joined-push}
-use Rattle.st_protocol.proofs.laws.log_that_runs.Goals as goal
+use Rattle.st_protocol.proofs.answers.log_that_runs.Goals as goal
 
 pub returns-clause-run : goal.returns-clause-run
 unfolding questions executed_values

@@ -1,6 +1,6 @@
 use Rattle.st_protocol.proofs.QuestionLaws.{one_body, one_heard, more_heard}
 use Rattle.st_protocol.proofs.CourseLaws.{Follows, course_follows}
-use Rattle.st_protocol.proofs.laws.answers_of_longer_lists.Goals as goal
+use Rattle.st_protocol.proofs.answers.answers_of_longer_lists.Goals as goal
 
 pub returns-clause-body : goal.returns-clause-body
 returns-clause-body c = one_body

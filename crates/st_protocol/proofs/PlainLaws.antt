@@ -1,0 +1,230 @@
+-- Lines that are built today leave every server running, with no stop set and an empty journal.
+use Rattle.std.proofs.Common.{◌≡◌, ℕ, ◌+◌, ◌-◌, Bool, true, false, cond, zero, suc, nat_eq, List, [], ◌∷◌, refl, sym, ◌∙◌, ap, subst, arith}
+use Rattle.std.specs.Prelude.{◌&&◌, Option, Some, None, is_some, not, nat_lt, nat_le, slice_get}
+use Rattle.std.proofs.lemmas.Bool.{and_parts}
+use Rattle.st_words.specs.declared.statement.Statement.{Statement}
+use Rattle.st_words.specs.declared.statement.Statement.TheVariants.{Reply}
+use Rattle.st_seal.specs.declared.quorum.Signed.{Signed}
+use Rattle.st_message.specs.declared.message.Message.{Message}
+use Rattle.st_message.specs.declared.message.Message.TheVariants as messages
+use Rattle.st_message.specs.declared.event.Outcome.TheVariants.{Ignored}
+use Rattle.st_message.specs.declared.event.Output.{Output}
+use Rattle.st_message.specs.declared.event.Plan.{Plan}
+use Rattle.st_message.specs.declared.change.Change.{Change}
+use Rattle.st_message.specs.declared.reason.Reason.TheVariants.{BadSeal}
+use Rattle.st_schedule.specs.declared.line.Dest.{Dest}
+use Rattle.st_schedule.specs.declared.line.Dest.TheVariants as dests
+use Rattle.st_schedule.specs.declared.line.Line.{Line}
+use Rattle.st_schedule.specs.declared.line.Line.TheVariants as lines
+use Rattle.st_schedule.specs.declared.limits.TheConstants.{MOST_JOURNAL, EMPTY_JOURNAL}
+use Rattle.st_schedule.specs.declared.done.Done.TheVariants as done
+use Rattle.st_protocol.specs.Words.{Bytes, server_at}
+use Rattle.st_protocol.specs.Keeping.{given}
+use Rattle.st_protocol.specs.Duty.{Event, Deliver, Reading, Faulty, Clean}
+use Rattle.st_protocol.specs.Known.{all_of}
+use Rattle.st_protocol.specs.World.{Deployment, Fault, BadReference, Node, Pair, Answered, Customer, World, fresh_node, empty, is_nil, handed, leaf_within, Stepped, stepped, with_node, with_customer, with_waiting, ends, hands, bad_seal, read_known, sends_to, notes_seal, hands_one, hands_out, settled, is_full_by, is_stopped_by, stands_full, stands_stopped, plan_at, comes_to, by_stand, serves, with_reply, answered, awaits, on_checked_reply, on_reply, client_takes, delivers}
+use Rattle.st_protocol.specs.Schedule.{is_built_line, Flowing, counts, flows_first, flows, submits, is_reference, goes, step, goes_on, steps, world_of}
+use Rattle.st_protocol.specs.Plain.{IsPlain, ArePlain}
+use Rattle.st_protocol.proofs.GatherLaws.{fold-keeps}
+
+-- ---- one server
+
+both_false : {A : Type 0} (a b : Bool) (x y z : A) → a ≡ false → b ≡ false → cond a x (cond b y z) ≡ z
+both_false a b x y z e f = rw (e, f) refl
+
+not_full : (b : Bool) (n : ℕ) → n ≡ 9 → (b && nat_lt MOST_JOURNAL n) ≡ false
+not_full true n e = rw e refl
+not_full false n e = refl
+
+not_stopped : (b : Bool) (stop : ℕ) → stop ≡ 0 → (b && nat_lt 0 stop && nat_le stop 4) ≡ false
+not_stopped true stop e = rw e refl
+not_stopped false stop e = refl
+
+either : (b : Bool) (x y n : ℕ) → x ≡ n → y ≡ n → cond b x y ≡ n
+either true x y n e f = e
+either false x y n e f = f
+
+module _ {Wire : Type 0} (d : Deployment Wire) (nothing_written : (changes : List Change) → d.formats.body_size changes ≡ 0) where
+  settled_plain : (node : Node) (plan : Plan) → IsPlain node → IsPlain (settled d node plan)
+  settled_plain node plan plain =
+      let stop = plain.no_stop in
+      let bytes = plain.empty_journal in
+      let size = nothing_written plan.changes in
+      record {
+        running = plain.running;
+        no_stop = either (is_nil plan.changes) node.stop (node.stop - 4) 0 stop (omega (arith, stop));
+        not_apart = refl;
+        empty_journal = either (is_nil plan.changes) node.bytes (node.bytes + d.formats.body_size plan.changes) EMPTY_JOURNAL bytes (omega (arith, bytes, size));
+      }
+
+  -- an event of such a server is its plan, handed out
+  pub plain_serves : (world : World Wire) (site index : ℕ) (event : Event Wire) → IsPlain (world.nodes site index) → d.faulty site index ≡ false →
+      serves d world site index event
+      ≡ stepped
+      (hands_out d site index (with_node world site index (settled d (world.nodes site index) (plan_at d world site index event))) (plan_at d world site index event).outputs)
+      (done.Outcome (plan_at d world site index event).outcome)
+  unfolding serves comes_to
+  plain_serves world site index event plain correct =
+      let node : Node = world.nodes site index in
+      let plan : Plan = plan_at d world site index event in
+      let bytes = plain.empty_journal in
+      let size = nothing_written plan.changes in
+      ap (λ b. cond b (stepped world done.Faulty) (by_stand d world site index event node.stand)) correct
+      ∙ ap (by_stand d world site index event) plain.running
+      ∙ both_false (is_full_by d node plan) (is_stopped_by d node plan)
+      (stepped (with_node world site index (stands_full d node)) done.Full)
+      (stepped (with_node world site index (stands_stopped d node plan.changes)) done.Stopped)
+      (stepped (hands_out d site index (with_node world site index (settled d node plan)) plan.outputs) (done.Outcome plan.outcome))
+      (not_full (not (is_nil plan.changes)) (node.bytes + d.formats.body_size plan.changes) (omega (arith, bytes, size)))
+      (not_stopped (not (is_nil plan.changes)) node.stop plain.no_stop)
+
+  -- ---- the world
+
+  abbrev Plainly : Stepped Wire → Type 0
+  Plainly st = ArePlain st.world
+
+  if_plainly : (b : Bool) (x y : Stepped Wire) → Plainly x → Plainly y → Plainly (cond b x y)
+  if_plainly true x y h k = h
+  if_plainly false x y h k = k
+
+  same_plain : (old new : World Wire) → new.nodes ≡ old.nodes → ArePlain old → ArePlain new
+  unfolding ArePlain
+  same_plain old new same plain site index = subst (λ (nodes : ℕ → ℕ → Node). IsPlain (nodes site index)) (sym same) (plain site index)
+
+  put_plain : (b : Bool) (x y : Node) → IsPlain x → IsPlain y → IsPlain (cond b x y)
+  put_plain true x y h k = h
+  put_plain false x y h k = k
+
+  node_plain : (world : World Wire) (site index : ℕ) (node : Node) → IsPlain node → ArePlain world → ArePlain (with_node world site index node)
+  unfolding ArePlain with_node
+  node_plain world site index node h plain s i = put_plain (nat_eq site s && nat_eq index i) node (world.nodes s i) h (plain s i)
+
+  notes_nodes : (site index : ℕ) (world : World Wire) (m : Message) → (notes_seal d site index world m).nodes ≡ world.nodes
+  unfolding notes_seal hands
+  notes_nodes site index world m = by_statement (handed site m)
+    where
+      by_statement : (x : Option Statement) →
+          (given x world (λ s. hands world (server_at site index) (leaf_within s (world.nodes site index).bodies) s)).nodes ≡ world.nodes
+      by_statement None = refl
+      by_statement (Some s) = refl
+
+  one_nodes : (site index : ℕ) (world : World Wire) (o : Output) → (hands_one d site index world o).nodes ≡ world.nodes
+  unfolding hands_one sends_to
+  one_nodes site index world o = notes_nodes site index world o.message
+
+  out_nodes : (site index : ℕ) (world : World Wire) (outputs : List Output) → (hands_out d site index world outputs).nodes ≡ world.nodes
+  out_nodes site index world outputs = fold-keeps (λ (w : World Wire). w.nodes) (hands_one d site index) (one_nodes site index) world outputs
+
+  out_plain : (world : World Wire) (site index : ℕ) (plan : Plan) → ArePlain world → IsPlain (world.nodes site index) →
+      ArePlain (hands_out d site index (with_node world site index (settled d (world.nodes site index) plan)) plan.outputs)
+  out_plain world site index plan plain here =
+      same_plain (with_node world site index (settled d (world.nodes site index) plan))
+      (hands_out d site index (with_node world site index (settled d (world.nodes site index) plan)) plan.outputs)
+      (out_nodes site index (with_node world site index (settled d (world.nodes site index) plan)) plan.outputs)
+      (node_plain world site index (settled d (world.nodes site index) plan) (settled_plain (world.nodes site index) plan here) plain)
+
+  faulty_serves : (world : World Wire) (site index : ℕ) (event : Event Wire) → d.faulty site index ≡ true → serves d world site index event ≡ stepped world done.Faulty
+  unfolding serves
+  faulty_serves world site index event faulty = ap (λ b. cond b (stepped world done.Faulty) (by_stand d world site index event (world.nodes site index).stand)) faulty
+
+  at_node : (world : World Wire) → ArePlain world → (site index : ℕ) → IsPlain (world.nodes site index)
+  unfolding ArePlain
+  at_node world plain = plain
+
+  serves_plain : (world : World Wire) (site index : ℕ) (event : Event Wire) → ArePlain world → Plainly (serves d world site index event)
+  serves_plain world site index event plain = by_fault (d.faulty site index) refl
+    where
+      by_fault : (b : Bool) → d.faulty site index ≡ b → Plainly (serves d world site index event)
+      by_fault true e = subst Plainly (sym (faulty_serves world site index event e)) plain
+      by_fault false e =
+          subst Plainly (sym (plain_serves world site index event (at_node world plain site index) e))
+          (out_plain world site index (plan_at d world site index event) plain (at_node world plain site index))
+
+  -- ---- what a client takes
+
+  given_plainly : {A : Type 0} (x : Option A) (none : Stepped Wire) (some : A → Stepped Wire) → Plainly none → ((a : A) → Plainly (some a)) → Plainly (given x none some)
+  given_plainly None none some h k = h
+  given_plainly (Some a) none some h k = k a
+
+  customer_plain : (world : World Wire) (client : ℕ) (customer : Customer) → ArePlain world → ArePlain (with_customer world client customer)
+  unfolding ArePlain with_customer
+  customer_plain world client customer plain = plain
+
+  checked_plain : (world : World Wire) (client : ℕ) (customer : Customer) (site index time : ℕ) (a : Answered) → ArePlain world →
+      Plainly (on_checked_reply d world client customer site index time a)
+  unfolding on_checked_reply
+  checked_plain world client customer site index time a plain =
+      if_plainly (awaits d customer time) _ _
+      (if_plainly (is_some (customer.replies site index)) _ _ plain (customer_plain world client (answered d (with_reply d customer site index a) site a) plain))
+      plain
+
+  reply_plain : (world : World Wire) (client : ℕ) (m : Message) (s : Statement) (signed : Signed) → ArePlain world → Plainly (on_reply d world client m s signed)
+  reply_plain world client m (Reply site to time number result) signed plain =
+      if_plainly (nat_eq client to.0) _ _
+      (given_plainly (bad_seal d m) _ (λ place. stepped world (done.Outcome (Ignored (BadSeal place))))
+      (checked_plain world client (world.customers client) site.0 signed.index time (record { number = number.0; result = result }) plain) (λ place. plain))
+      plain
+  reply_plain world client m _ signed plain = plain
+
+  client_plain : (world : World Wire) (client : ℕ) (r : Reading) → ArePlain world → Plainly (client_takes d world client r)
+  client_plain world client (Faulty reason) plain = plain
+  client_plain world client (Clean (messages.Reply s signed)) plain = reply_plain world client (messages.Reply s signed) s signed plain
+  client_plain world client (Clean _) plain = plain
+
+  delivers_plain : (world : World Wire) (to : Dest) (wire : Wire) → ArePlain world → Plainly (delivers d world to wire)
+  unfolding delivers
+  delivers_plain world (dests.Server server) wire plain = serves_plain world server.site server.index (Deliver wire) plain
+  delivers_plain world (dests.Client client) wire plain = client_plain world client.0 (read_known d wire) plain
+
+  -- ---- the lines
+
+  waiting_plain : (world : World Wire) (pairs : List Pair) → ArePlain world → ArePlain (with_waiting world pairs)
+  unfolding ArePlain with_waiting
+  waiting_plain world pairs plain = plain
+
+  first_plain : (x : Flowing Wire) (pairs : List Pair) → ArePlain x.world → ArePlain (flows_first d x pairs).world
+  unfolding flows_first
+  first_plain x [] plain = plain
+  first_plain x (p ∷ ps) plain = by_wire (slice_get x.world.sent p.message)
+    where
+      by_wire : (wire : Option Wire) → ArePlain (given wire x (λ sent. counts d x (delivers d (with_waiting x.world ps) p.to sent))).world
+      by_wire None = plain
+      by_wire (Some sent) = delivers_plain (with_waiting x.world ps) p.to sent (waiting_plain x.world ps plain)
+
+  flows_plain : (k : ℕ) (x : Flowing Wire) → ArePlain x.world → ArePlain (flows d k x).world
+  unfolding flows
+  flows_plain zero x plain = plain
+  flows_plain (suc k) x plain = flows_plain k (flows_first d x x.world.waiting) (first_plain x x.world.waiting plain)
+
+  submits_plain : (world : World Wire) (client : ℕ) (op : Bytes) → ArePlain world → Plainly (submits d world client op)
+  unfolding submits sends_to hands with_customer ArePlain
+  submits_plain world client op plain = if_plainly (nat_le d.capacity (world.customers client).time) _ _ plain plain
+
+  goes_plain : (world : World Wire) (line : Line) → is_built_line line ≡ true → ArePlain world → Plainly (goes d world line)
+  goes_plain world (lines.Client client op) built plain = submits_plain world client.0 op plain
+  goes_plain world (lines.Flow k) built plain = flows_plain k (record { world = world; pairs = 0; did = 0; ignored = 0 }) plain
+  goes_plain world (lines.Show m) built plain = absurd (let no : false ≡ true = built in cc)
+  goes_plain world _ built plain = absurd (let no : false ≡ true = built in cc)
+
+  ends_plain : (world : World Wire) (fault : Option Fault) → ArePlain world → ArePlain (ends world fault)
+  unfolding ArePlain ends
+  ends_plain world fault plain = plain
+
+  step_plain : (world : World Wire) (line : Line) → is_built_line line ≡ true → ArePlain world → Plainly (step d world line)
+  unfolding step
+  step_plain world line built plain = if_plainly (is_reference d world line) _ _ (goes_plain world line built plain) (ends_plain world (Some BadReference) plain)
+
+  steps_plain : (world : World Wire) (all : List Line) → all_of is_built_line all ≡ true → ArePlain world → ArePlain (steps d world all)
+  unfolding all_of
+  steps_plain world [] built plain = plain
+  steps_plain world (line ∷ more) built plain =
+      let parts = and_parts (is_built_line line) (all_of is_built_line more) built in
+      steps_plain (goes_on d world line) more parts.1 (step_plain world line parts.0 plain)
+
+  empty_plain : ArePlain (empty {Wire = Wire})
+  unfolding ArePlain empty fresh_node
+  empty_plain site index = record { running = refl; no_stop = refl; not_apart = refl; empty_journal = refl }
+
+  -- Lines that are built leave all servers so.
+  pub built_lines_plain : (all : List Line) → all_of is_built_line all ≡ true → ArePlain (world_of d all)
+  built_lines_plain all built = steps_plain empty all built empty_plain
