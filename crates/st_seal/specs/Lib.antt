@@ -1,4 +1,5 @@
 -- The definitions that contracts cite.
+pub mod Certificates
 pub mod Keyed
 pub mod KeyedLaws
 pub mod KeyedSchemes
@@ -6,3 +7,5 @@ pub mod KeyedSealers
 pub mod Pen
 pub mod Rising
 pub mod Scheme
+pub mod VoiceLaws
+pub mod Voices
