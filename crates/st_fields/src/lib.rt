@@ -24,3 +24,6 @@ pub use same::Same;
 pub use seq::{Bytes, Seq};
 pub use shared::Shared;
 pub use writing::{put_byte, put_bytes, put_text, put_u16, put_u32, put_u64};
+
+#[cfg(test)]
+mod tests;

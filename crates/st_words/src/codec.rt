@@ -7,9 +7,12 @@ mod report;
 mod statement;
 mod value;
 
-pub use item::{put_items, read_items};
+pub use item::{limits_above, put_items, read_items};
 pub use report::read_report;
 pub use statement::{
     no_proper_prefix, one_statement, put_core, read_core, read_statement, statement_bytes,
 };
 pub use value::{put_update, put_value, read_update, read_value};
+
+#[cfg(test)]
+mod tests;

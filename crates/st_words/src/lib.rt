@@ -10,8 +10,8 @@ mod statement;
 mod value;
 
 pub use codec::{
-    no_proper_prefix, one_statement, put_core, put_items, put_update, put_value, read_core,
-    read_items, read_report, read_statement, read_update, read_value, statement_bytes,
+    limits_above, no_proper_prefix, one_statement, put_core, put_items, put_update, put_value,
+    read_core, read_items, read_report, read_statement, read_update, read_value, statement_bytes,
 };
 pub use deployment::{Deployment, LAST_NUMBER, MOST_VIEW, SealKind, ServiceKind, WINDOW};
 pub use ids::{ClientId, LocalView, Number, ServerId, Servers, SiteId, View, Who};

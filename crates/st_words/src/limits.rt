@@ -59,7 +59,10 @@ impl ReportBounds {
     {
         match report {
             Statement::LocalReport {
-                site, local, index, ..
+                site,
+                local,
+                index,
+                ..
             } => ReportBounds {
                 local: true,
                 global: false,
@@ -70,7 +73,10 @@ impl ReportBounds {
                 least_index: u16::from(*index) + 1,
             },
             Statement::GlobalReport {
-                site, view, index, ..
+                site,
+                view,
+                index,
+                ..
             } => ReportBounds {
                 local: false,
                 global: true,

@@ -2,7 +2,7 @@
 
 ghost use Rattle.std.specs.Prelude.{◌≡◌, ◌++◌, ◌≤◌, OnOk, length, All};
 ghost use Rattle.st_fields.specs.Reading.{Gives};
-ghost use Rattle.st_words.specs.Ranges.{KeepsValue, after_item, limits_above};
+ghost use Rattle.st_words.specs.Ranges.{most_base, most_items, KeepsValue, after_item, limits_above};
 ghost use Rattle.st_words.specs.Spelling.{item_spelling, items_spelling};
 ghost use Rattle.st_words.specs.Reading.{item_at, items_at};
 
@@ -93,7 +93,7 @@ fn put_item(out: &mut Vec<u8>, item: &Item) -> Result<(), AllocError>
 /// Items behind their number. Where memory is refused, a part of them may stand in `out`.
 #[tactic(auto, unfolding(crate::specs::Spelling::items_spelling))]
 pub fn put_items(out: &mut Vec<u8>, items: &Items) -> Result<(), AllocError>
-    requires count { length items.now ≤ 16 }
+    requires count { length items.now ≤ most_items }
     requires values { All (λ item. KeepsValue item.value) items.now }
     ensures { OnOk result (out.new.items ≡ out.old.items ++ items_spelling items.now) }
 {
@@ -106,7 +106,7 @@ pub const MOST_BASE: u32 = u32::MAX - 16;
 
 /// The limits of the first item of a list above `base`.
 pub fn limits_above(base: u32, most_view: u32, most_local: u32) -> ItemLimits
-    requires { base ≤ 4294967279 }
+    requires { base ≤ most_base }
     ensures { result ≡ limits_above base most_view most_local }
 {
     ItemLimits {

@@ -3,7 +3,7 @@
 ghost use Rattle.std.specs.Prelude.{◌≡◌, ◌++◌, ◌∷◌, [], ◌≤◌, OnOk, length, All};
 ghost use Rattle.std.specs.Int.{w32};
 ghost use Rattle.st_fields.specs.Spelling.{joined, byte, number, text};
-ghost use Rattle.st_words.specs.Ranges.{KeepsValue, KeepsStatement};
+ghost use Rattle.st_words.specs.Ranges.{most_items, KeepsValue, KeepsStatement};
 ghost use Rattle.st_words.specs.Spelling.{value_spelling, items_spelling, fields_spelling};
 
 use crate::codec::item::put_items;
@@ -34,7 +34,7 @@ fn put_slot(
 }
 
 fn put_based(out: &mut Vec<u8>, base: u32, items: &Items) -> Result<(), AllocError>
-    requires count { length items.now ≤ 16 }
+    requires count { length items.now ≤ most_items }
     requires values { All (λ item. KeepsValue item.value) items.now }
     ensures { OnOk result (out.new.items ≡ out.old.items ++ joined (number w32 base ∷ items_spelling items.now ∷ [])) }
 {
