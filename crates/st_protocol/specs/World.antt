@@ -210,6 +210,11 @@ unfoldable pub first_bad : (SealIn → Bool) → List SealIn → Option ℕ
 first_bad good [] = None
 first_bad good (x ∷ xs) = cond (good x) (first_bad good xs) (Some x.place)
 
+-- whether the party handed out this seal: with this leaf over this statement
+unfoldable pub has_handed : List MadeSeal → Who → ℕ → Statement → Bool
+has_handed [] who leaf s = false
+has_handed (x ∷ xs) who leaf s = (same_who x.who who && nat_eq x.leaf leaf && same_statement x.statement s) || has_handed xs who leaf s
+
 -- the statement that a message of a server's own seals
 abbrev pub own_statement : Message → Option Statement
 own_statement (messages.Share s signed) = Some s
@@ -220,19 +225,6 @@ own_statement m = None
 abbrev pub handed : ℕ → Message → Option Statement
 handed site (messages.Assign view local number value client_seal signed) = Some (a_prepare site view.0 local.0 number.0 value)
 handed site m = own_statement m
-
-abbrev pub leaf_of : Statement → Change → Option ℕ
-leaf_of s (Made leaf t) = cond (same_statement t s) (Some leaf) None
-leaf_of s x = None
-
-unfoldable pub leaf_in : Statement → List Change → Option ℕ
-leaf_in s [] = None
-leaf_in s (x ∷ xs) = or_else (leaf_of s x) (leaf_in s xs)
-
--- the leaf with which the records made the statement
-unfoldable pub leaf_within : Statement → List (List Change) → ℕ
-leaf_within s [] = 0
-leaf_within s (body ∷ bodies) = given (leaf_in s body) (leaf_within s bodies) (λ leaf. leaf)
 
 -- ---- one field changed
 
@@ -258,7 +250,7 @@ module _ {Wire : Type 0} where
   -- a seal is handed out: it is noted where it wasn't before
   unfoldable pub hands : World Wire → Who → ℕ → Statement → World Wire
   hands world who leaf s =
-      record world { made = cond (has_made world.made who s) world.made (world.made ++ record { who = who; leaf = leaf; statement = s } ∷ []) }
+      record world { made = cond (has_handed world.made who leaf s) world.made (world.made ++ record { who = who; leaf = leaf; statement = s } ∷ []) }
 
 -- ---- what a world and an event's outcome are together
 
@@ -340,13 +332,13 @@ module _ {Wire : Type 0} (d : Deployment Wire) where
   -- ---- what a server's event comes to
 
   -- the seal of an own message is noted
-  unfoldable pub notes_seal : ℕ → ℕ → World Wire → Message → World Wire
-  notes_seal site index world m =
-      given (handed site m) world (λ s. hands world (server_at site index) (leaf_within s (world.nodes site index).bodies) s)
+  unfoldable pub notes_seal : ℕ → ℕ → World Wire → Output → World Wire
+  notes_seal site index world o =
+      given o.leaf world (λ leaf. given (handed site o.message) world (λ s. hands world (server_at site index) leaf s))
 
   -- one message of a server's is handed out
   unfoldable pub hands_one : ℕ → ℕ → World Wire → Output → World Wire
-  hands_one site index world o = sends_to (notes_seal site index world o.message) (d.formats.encode o.message) (dests_of o.to)
+  hands_one site index world o = sends_to (notes_seal site index world o) (d.formats.encode o.message) (dests_of o.to)
 
   abbrev pub hands_out : ℕ → ℕ → World Wire → List Output → World Wire
   hands_out site index world outputs = fold (hands_one site index) world outputs
