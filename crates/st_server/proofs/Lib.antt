@@ -1,3 +1,4 @@
 -- Lemmas.
 pub mod CutLaws
 pub mod NoteLaws
+pub mod HearLaws

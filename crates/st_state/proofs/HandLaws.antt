@@ -23,7 +23,7 @@ pub open_none : {A : Type 0} (b : Bool) → open_if {A = A} b None ≡ None
 open_none true = refl
 open_none false = refl
 
-greatest_alone : (x : Option Word) → greatest word_view x None ≡ x
+pub greatest_alone : (x : Option Word) → greatest word_view x None ≡ x
 greatest_alone None = refl
 greatest_alone (Some x) = refl
 

@@ -4,3 +4,4 @@ pub mod SharesLaws
 pub mod OwnLaws
 pub mod HandLaws
 pub mod CutLaws
+pub mod StillLaws

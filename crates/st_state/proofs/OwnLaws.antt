@@ -21,11 +21,11 @@ abbrev Rows : Type 0
 Rows = List (Option Completed)
 
 -- what is there comes last
-or_last_alone : {A : Type 0} (x : Option A) → or_last x None ≡ x
+pub or_last_alone : {A : Type 0} (x : Option A) → or_last x None ≡ x
 or_last_alone None = refl
 or_last_alone (Some x) = refl
 
-greatest_alone : (x : Option Completed) → greatest_last completed_local x None ≡ x
+pub greatest_alone : (x : Option Completed) → greatest_last completed_local x None ≡ x
 greatest_alone None = refl
 greatest_alone (Some x) = refl
 
