@@ -1,8 +1,11 @@
+ghost use Rattle.std.specs.Prelude.{◌≡◌};
+ghost use Rattle.st_message.specs.Refusals.{from_words};
+
 use crate::change::{Changes, HeardList};
 use crate::event::Scope;
 use crate::message::{Message, Proof};
 use crate::reason::Reason;
-use st_fields::{Bytes, Seq};
+use st_fields::{Bytes, Seq, WordsError};
 use st_seal::Quorums;
 use st_words::Statement;
 
@@ -56,4 +59,16 @@ pub enum Refused {
     Ignored(Reason),
     /// Memory was refused.
     OutOfMemory,
+}
+
+/// A refusal by the lower crates' calls.
+impl From<WordsError> for Refused {
+    ghost from_gives = { λ d e. e ≡ from_words d };
+
+    fn from(error: WordsError) -> Refused {
+        match error {
+            WordsError::Malformed { place } => Refused::Ignored(Reason::Malformed { place }),
+            WordsError::OutOfMemory => Refused::OutOfMemory,
+        }
+    }
 }

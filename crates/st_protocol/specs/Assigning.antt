@@ -1,5 +1,5 @@
 -- A value is given a number: updates, assignments, the shares of Prepares and Proposals, and the fill.
-use Rattle.std.specs.Prelude.{ℕ, ◌+◌, ◌-◌, ◌%◌, min, Bool, true, false, cond, zero, suc, nat_eq, nat_lt, nat_le, ◌&&◌, ◌||◌, not, Option, Some, None, is_some, is_none, [], ◌∷◌}
+use Rattle.std.specs.Prelude.{ℕ, ◌+◌, ◌-◌, ◌%◌, min, Bool, true, false, cond, zero, suc, nat_eq, nat_lt, nat_le, ◌&&◌, ◌||◌, not, Option, Some, None, is_some, is_none, List, [], ◌∷◌}
 use Rattle.st_words.specs.declared.deployment.TheConstants.{WINDOW, LAST_NUMBER}
 use Rattle.st_words.specs.declared.value.Update.{Update}
 use Rattle.st_words.specs.declared.value.Value.{Value}
@@ -10,6 +10,7 @@ use Rattle.st_seal.specs.declared.quorum.Signed.{Signed}
 use Rattle.st_message.specs.declared.message.Message.TheVariants as messages
 use Rattle.st_message.specs.declared.event.Scope.TheVariants as scopes
 use Rattle.st_message.specs.declared.change.Change.TheVariants.{Prepared}
+use Rattle.st_message.specs.declared.reason.Reason.{Reason}
 use Rattle.st_message.specs.declared.reason.Reason.TheVariants.{NotRep, Waiting, Below, OtherValue, OldTime, LogFull}
 use Rattle.st_message.specs.declared.step.Form.TheVariants as forms
 use Rattle.st_message.specs.declared.step.Out.TheVariants.{Make}
@@ -17,7 +18,7 @@ use Rattle.st_message.specs.declared.step.Step.{Step}
 use Rattle.st_protocol.specs.Words.{Bytes, Quorum, a_prepare, a_proposal, same_update, same_value}
 use Rattle.st_protocol.specs.Keeping.{given}
 use Rattle.st_protocol.specs.State.{Place, AtPrepare, AtProposal, same_place, Here, Sealing, Share, Slots, Pended}
-use Rattle.st_protocol.specs.Step.{Answer, idle, then, making, recording, keeping, putting, when, decides, some_below, first_below, one_if, rep, leader, to_rep, to_site, not_site, other_view, beyond, not_rep, seen, spent, full, complete, completes, completed, certifies}
+use Rattle.st_protocol.specs.Step.{Answer, idle, then, making, recording, keeping, putting, when, decides, some_below, first_below, one_if, rep, leader, to_rep, to_site, not_site, other_view, beyond, not_rep, seen, spent, full, complete, is_seen_share, completes, completed, certifies}
 use Rattle.st_protocol.specs.Forced.{Forced, waits, forced_above}
 
 -- ---- updates
@@ -26,16 +27,22 @@ abbrev pub is_seen_update : ℕ → Option Pended → Bool
 is_seen_update time x = given x false (λ k. nat_le time k.update.time)
 
 -- `last` is the client's last time, `reply` the Reply that this server made to it
-abbrev pub on_update : Here → (ℕ → Option Pended) → ℕ → Option Sealing → Update → Bytes → Answer
-on_update here pending last reply u seal =
-    decides
-    (seen (is_seen_update u.time (pending u.client.0))
+abbrev pub update_reasons : Here → (ℕ → Option Pended) → ℕ → Option Sealing → Update → List (Bool × Reason)
+update_reasons here pending last reply u =
+    seen (is_seen_update u.time (pending u.client.0))
     ∷ (nat_lt u.time last || (nat_eq u.time last && is_none reply), OldTime last)
     ∷ (nat_le LAST_NUMBER here.executed, LogFull (LAST_NUMBER + 1))
-    ∷ [])
-    (cond (nat_eq u.time last)
+    ∷ []
+
+-- the Reply goes out again, or the update waits for a number
+abbrev pub update_step : ℕ → Option Sealing → Update → Bytes → Step
+update_step last reply u seal =
+    cond (nat_eq u.time last)
     (given reply idle (λ r. putting (Make r.statement forms.Reply (scopes.Client u.client))))
-    (keeping (messages.Update u seal)))
+    (keeping (messages.Update u seal))
+
+abbrev pub on_update : Here → (ℕ → Option Pended) → ℕ → Option Sealing → Update → Bytes → Answer
+on_update here pending last reply u seal = decides (update_reasons here pending last reply u) (update_step last reply u seal)
 
 -- ---- assignments
 
@@ -61,60 +68,99 @@ prepares here slots leaf view local n value q =
     (when (is_none (slots.made (AtProposal view local n)))
     (making leaf (a_proposal here.seat.site view local n value) forms.Share (to_rep here)))
 
-abbrev pub on_assign : Here → Slots → Forced → ℕ → ℕ → ℕ → Value → Bytes → Signed → Answer
-on_assign here slots forced view local n value client_seal signed =
-    let statement : Statement = a_prepare here.seat.site view local n value in
-    let shares : (ℕ → Option Share) = slots.shares (AtPrepare view local n) in
-    let new : Bool = is_none (slots.made (AtPrepare view local n)) in
-    let keeps : Bool = not (complete here shares) in
-    let done : Bool = keeps && completes here shares statement signed in
-    let proposes : Bool = done && is_none (slots.made (AtProposal view local n)) in
-    decides
-    (not_site here (view % here.seat.sites)
+-- no Prepare was made there, so one is made
+abbrev pub assigns : Slots → ℕ → ℕ → ℕ → Bool
+assigns slots view local n = is_none (slots.made (AtPrepare view local n))
+
+-- the representative's Prepare is kept as a share, unless the slot is complete
+abbrev pub keeps_assigned : Here → Slots → ℕ → ℕ → ℕ → Bool
+keeps_assigned here slots view local n = not (complete here (slots.shares (AtPrepare view local n)))
+
+-- it is kept, and completes the slot
+abbrev pub completes_assigned : Here → Slots → ℕ → ℕ → ℕ → Value → Signed → Bool
+completes_assigned here slots view local n value signed =
+    keeps_assigned here slots view local n
+    && completes here (slots.shares (AtPrepare view local n)) (a_prepare here.seat.site view local n value) signed
+
+-- a complete slot where no Proposal was made
+abbrev pub proposes : Slots → ℕ → ℕ → ℕ → Bool → Bool
+proposes slots view local n done = done && is_none (slots.made (AtProposal view local n))
+
+abbrev pub assign_reasons : Here → Slots → Forced → ℕ → ℕ → ℕ → Value → Bytes → Signed → List (Bool × Reason)
+assign_reasons here slots forced view local n value client_seal signed =
+    let new : Bool = assigns slots view local n in
+    let done : Bool = completes_assigned here slots view local n value signed in
+    not_site here (view % here.seat.sites)
     ∷ other_view here (not (nat_eq view here.view && nat_eq local here.local))
     ∷ beyond here n
     ∷ (not (nat_eq signed.index (rep here)), NotRep (rep here))
-    ∷ seen (is_some (shares signed.index))
+    ∷ seen (is_some (slots.shares (AtPrepare view local n) signed.index))
     ∷ (new && waits forced, Waiting forced.held forced.wanted)
     ∷ (new && nat_le n forced.base, Below n forced.base)
     ∷ (new && is_other_value here forced n value client_seal, OtherValue)
-    ∷ spent here (one_if new + one_if proposes)
+    ∷ spent here (one_if new + one_if (proposes slots view local n done))
     ∷ full n
-    ∷ [])
-    (then (when new (making here.leaf statement forms.Share (to_site here)))
-    (when keeps
+    ∷ []
+
+abbrev pub assign_step : Here → Slots → ℕ → ℕ → ℕ → Value → Signed → Step
+assign_step here slots view local n value signed =
+    let statement : Statement = a_prepare here.seat.site view local n value in
+    let new : Bool = assigns slots view local n in
+    then (when new (making here.leaf statement forms.Share (to_site here)))
+    (when (keeps_assigned here slots view local n)
     (then (keeping (messages.Share statement signed))
-    (when done (prepares here slots (here.leaf + one_if new) view local n value (completed here shares statement signed))))))
+    (when (completes_assigned here slots view local n value signed)
+    (prepares here slots (here.leaf + one_if new) view local n value (completed here (slots.shares (AtPrepare view local n)) statement signed)))))
+
+abbrev pub on_assign : Here → Slots → Forced → ℕ → ℕ → ℕ → Value → Bytes → Signed → Answer
+on_assign here slots forced view local n value client_seal signed =
+    decides (assign_reasons here slots forced view local n value client_seal signed) (assign_step here slots view local n value signed)
 
 -- ---- shares
 
-abbrev pub on_prepare : Here → Slots → ℕ → ℕ → ℕ → ℕ → Value → Signed → Answer
-on_prepare here slots site view local n value signed =
-    let statement : Statement = a_prepare site view local n value in
-    let shares : (ℕ → Option Share) = slots.shares (AtPrepare view local n) in
-    let done : Bool = completes here shares statement signed in
-    decides
-    (not_site here site
+-- the share completes its slot
+abbrev pub completes_prepare : Here → Slots → ℕ → ℕ → ℕ → ℕ → Value → Signed → Bool
+completes_prepare here slots site view local n value signed =
+    completes here (slots.shares (AtPrepare view local n)) (a_prepare site view local n value) signed
+
+abbrev pub prepare_reasons : Here → Slots → ℕ → ℕ → ℕ → ℕ → Value → Signed → List (Bool × Reason)
+prepare_reasons here slots site view local n value signed =
+    not_site here site
     ∷ other_view here (not (nat_eq view here.view && nat_eq local here.local))
     ∷ beyond here n
-    ∷ seen (is_some (shares signed.index) || complete here shares)
-    ∷ spent here (one_if (done && is_none (slots.made (AtProposal view local n))))
+    ∷ seen (is_seen_share here (slots.shares (AtPrepare view local n)) signed.index)
+    ∷ spent here (one_if (proposes slots view local n (completes_prepare here slots site view local n value signed)))
     ∷ full n
-    ∷ [])
-    (then (keeping (messages.Share statement signed)) (when done (prepares here slots here.leaf view local n value (completed here shares statement signed))))
+    ∷ []
 
-abbrev pub on_proposal_share : Here → Slots → ℕ → ℕ → ℕ → ℕ → Value → Signed → Answer
-on_proposal_share here slots site view local n value signed =
-    let shares : (ℕ → Option Share) = slots.shares (AtProposal view local n) in
-    decides
-    (not_site here site
+abbrev pub prepare_step : Here → Slots → ℕ → ℕ → ℕ → ℕ → Value → Signed → Step
+prepare_step here slots site view local n value signed =
+    let statement : Statement = a_prepare site view local n value in
+    then (keeping (messages.Share statement signed))
+    (when (completes_prepare here slots site view local n value signed)
+    (prepares here slots here.leaf view local n value (completed here (slots.shares (AtPrepare view local n)) statement signed)))
+
+abbrev pub on_prepare : Here → Slots → ℕ → ℕ → ℕ → ℕ → Value → Signed → Answer
+on_prepare here slots site view local n value signed =
+    decides (prepare_reasons here slots site view local n value signed) (prepare_step here slots site view local n value signed)
+
+abbrev pub proposal_share_reasons : Here → Slots → ℕ → ℕ → ℕ → ℕ → Signed → List (Bool × Reason)
+proposal_share_reasons here slots site view local n signed =
+    not_site here site
     ∷ other_view here (not (nat_eq view here.view && nat_eq local here.local))
     ∷ beyond here n
     ∷ not_rep here
-    ∷ seen (is_some (shares signed.index) || complete here shares)
+    ∷ seen (is_seen_share here (slots.shares (AtProposal view local n)) signed.index)
     ∷ full n
-    ∷ [])
-    (certifies here shares (a_proposal site view local n value) signed scopes.All)
+    ∷ []
+
+abbrev pub proposal_share_step : Here → Slots → ℕ → ℕ → ℕ → ℕ → Value → Signed → Step
+proposal_share_step here slots site view local n value signed =
+    certifies here (slots.shares (AtProposal view local n)) (a_proposal site view local n value) signed scopes.All
+
+abbrev pub on_proposal_share : Here → Slots → ℕ → ℕ → ℕ → ℕ → Value → Signed → Answer
+on_proposal_share here slots site view local n value signed =
+    decides (proposal_share_reasons here slots site view local n signed) (proposal_share_step here slots site view local n value signed)
 
 -- ---- the fill
 

@@ -5,6 +5,7 @@ pub mod State
 pub mod Questions
 pub mod Growth
 pub mod Step
+pub mod Part
 pub mod Forced
 pub mod Assigning
 pub mod Views

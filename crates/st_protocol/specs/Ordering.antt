@@ -8,6 +8,7 @@ use Rattle.st_message.specs.declared.message.Proof.{Proof}
 use Rattle.st_message.specs.declared.message.Message.{Message}
 use Rattle.st_message.specs.declared.message.Message.TheVariants as messages
 use Rattle.st_message.specs.declared.event.Scope.TheVariants as scopes
+use Rattle.st_message.specs.declared.reason.Reason.{Reason}
 use Rattle.st_message.specs.declared.change.Change.{Change}
 use Rattle.st_message.specs.declared.change.Change.TheVariants.{Accepted, Executed}
 use Rattle.st_message.specs.declared.step.Form.TheVariants as forms
@@ -16,31 +17,40 @@ use Rattle.st_protocol.specs.Words.{Quorum, a_proposal, an_accept, a_site_word, 
 use Rattle.st_protocol.specs.Keeping.{given, or_else}
 use Rattle.st_protocol.specs.State.{AtAccept, Here, Share, Slots, Word, Hand}
 use Rattle.st_protocol.specs.Growth.{hand_takes, hand_cuts}
-use Rattle.st_protocol.specs.Step.{Answer, then, making, recording, decides, count_below, first_below, all_below, majority, to_rep, not_site, other_view, beyond, not_rep, seen, spent, full, complete, certifies}
+use Rattle.st_protocol.specs.Step.{Answer, then, making, recording, decides, count_below, first_below, all_below, majority, to_rep, not_site, other_view, beyond, not_rep, seen, spent, full, is_seen_share, certifies}
 
-abbrev pub on_accept_share : Here → Slots → ℕ → ℕ → ℕ → Value → Signed → Answer
-on_accept_share here slots site view n value signed =
-    let shares : (ℕ → Option Share) = slots.shares (AtAccept view n) in
-    decides
-    (not_site here site
+abbrev pub accept_share_reasons : Here → Slots → ℕ → ℕ → ℕ → Signed → List (Bool × Reason)
+accept_share_reasons here slots site view n signed =
+    not_site here site
     ∷ other_view here (not (nat_eq view here.view))
     ∷ beyond here n
     ∷ not_rep here
-    ∷ seen (is_some (shares signed.index) || complete here shares)
+    ∷ seen (is_seen_share here (slots.shares (AtAccept view n)) signed.index)
     ∷ full n
-    ∷ [])
-    (certifies here shares (an_accept site view n value) signed scopes.All)
+    ∷ []
 
-abbrev pub on_proposal : Here → Slots → ℕ → ℕ → ℕ → ℕ → Value → Quorum → Answer
-on_proposal here slots site view local n value q =
-    decides
-    (other_view here (not (nat_eq view here.view))
+abbrev pub accept_share_step : Here → Slots → ℕ → ℕ → ℕ → Value → Signed → Step
+accept_share_step here slots site view n value signed = certifies here (slots.shares (AtAccept view n)) (an_accept site view n value) signed scopes.All
+
+abbrev pub on_accept_share : Here → Slots → ℕ → ℕ → ℕ → Value → Signed → Answer
+on_accept_share here slots site view n value signed =
+    decides (accept_share_reasons here slots site view n signed) (accept_share_step here slots site view n value signed)
+
+abbrev pub proposal_reasons : Here → Slots → ℕ → ℕ → List (Bool × Reason)
+proposal_reasons here slots view n =
+    other_view here (not (nat_eq view here.view))
     ∷ beyond here n
     ∷ seen (is_some (slots.made (AtAccept view n)))
     ∷ spent here 1
     ∷ full n
-    ∷ [])
-    (then (recording (Accepted (a_proposal site view local n value) q)) (making here.leaf (an_accept here.seat.site view n value) forms.Share (to_rep here)))
+    ∷ []
+
+abbrev pub proposal_step : Here → ℕ → ℕ → ℕ → ℕ → Value → Quorum → Step
+proposal_step here site view local n value q =
+    then (recording (Accepted (a_proposal site view local n value) q)) (making here.leaf (an_accept here.seat.site view n value) forms.Share (to_rep here))
+
+abbrev pub on_proposal : Here → Slots → ℕ → ℕ → ℕ → ℕ → Value → Quorum → Answer
+on_proposal here slots site view local n value q = decides (proposal_reasons here slots view n) (proposal_step here site view local n value q)
 
 -- ---- what is in hand
 
@@ -76,14 +86,18 @@ keeps_and_executes here hand m =
       out = [];
     }
 
+-- a word of a higher view is kept, or one of the site at its view
+abbrev pub is_seen_word : Hand → ℕ → ℕ → ℕ → Bool
+is_seen_word hand site view n = nat_lt (view + 1) (hand.highest n) || (nat_eq (view + 1) (hand.highest n) && is_some (hand.word n site))
+
+abbrev pub accept_reasons : Here → Hand → ℕ → ℕ → ℕ → List (Bool × Reason)
+accept_reasons here hand site view n = beyond here n ∷ seen (is_seen_word hand site view n) ∷ full n ∷ []
+
+abbrev pub accept_step : Here → Hand → ℕ → ℕ → ℕ → Value → Quorum → Step
+accept_step here hand site view n value q = keeps_and_executes here hand (messages.Certificate (an_accept site view n value) q)
+
 abbrev pub on_accept : Here → Hand → ℕ → ℕ → ℕ → Value → Quorum → Answer
-on_accept here hand site view n value q =
-    decides
-    (beyond here n
-    ∷ seen (nat_lt (view + 1) (hand.highest n) || (nat_eq (view + 1) (hand.highest n) && is_some (hand.word n site)))
-    ∷ full n
-    ∷ [])
-    (keeps_and_executes here hand (messages.Certificate (an_accept site view n value) q))
+on_accept here hand site view n value q = decides (accept_reasons here hand site view n) (accept_step here hand site view n value q)
 
 abbrev pub on_order_proof : Here → Hand → ℕ → Proof → Answer
 on_order_proof here hand n p =

@@ -1,5 +1,5 @@
 -- What a part of a server answers, and the words that the parts share.
-use Rattle.std.specs.Prelude.{ℕ, ◌+◌, ◌*◌, ◌%◌, ◌/◌, Bool, true, false, cond, zero, suc, nat_eq, nat_lt, nat_le, ◌||◌, not, Option, Some, None, List, [], ◌∷◌, ◌++◌}
+use Rattle.std.specs.Prelude.{ℕ, ◌+◌, ◌*◌, ◌%◌, ◌/◌, Bool, true, false, cond, zero, suc, nat_eq, nat_lt, nat_le, ◌||◌, not, Option, Some, None, is_some, List, [], ◌∷◌, ◌++◌}
 use Rattle.st_words.specs.declared.deployment.TheConstants.{WINDOW, LAST_NUMBER, MOST_VIEW}
 use Rattle.st_words.specs.declared.statement.Statement.{Statement}
 use Rattle.st_seal.specs.declared.quorum.Signed.{Signed}
@@ -151,6 +151,10 @@ agreeing here shares s = count_below (λ i. says s (shares i)) (servers here)
 -- q kept shares are over one statement
 unfoldable pub complete : Here → (ℕ → Option Share) → Bool
 complete here shares = some_below (λ i. given (shares i) false (λ x. nat_le (quorum here) (agreeing here shares x.statement))) (servers here)
+
+-- a server's share is kept already, or its slot is complete
+abbrev pub is_seen_share : Here → (ℕ → Option Share) → ℕ → Bool
+is_seen_share here shares index = is_some (shares index) || complete here shares
 
 -- the shares once this one is kept too
 abbrev pub with_share : (ℕ → Option Share) → Statement → Signed → ℕ → Option Share

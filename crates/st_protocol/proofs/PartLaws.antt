@@ -1,0 +1,16 @@
+-- Laws on how a part answers.
+use Rattle.std.proofs.Common.{◌≡◌, Bool, true, false, cond, Some, List, [], ◌∷◌, refl}
+use Rattle.st_message.specs.declared.reason.Reason.{Reason}
+use Rattle.st_message.specs.declared.step.Step.{Step}
+use Rattle.st_protocol.specs.Step.{Answer, Refused, decides}
+use Rattle.st_protocol.specs.Part.{first_reason, answer_by}
+
+-- the first reason whose test is true is the answer, or else the step
+pub decides_by : (ts : List (Bool × Reason)) (step : Step) → decides ts step ≡ answer_by (first_reason ts) step
+decides_by [] step = refl
+decides_by (t ∷ ts) step = by_test t.0 (decides_by ts step)
+  where
+    by_test : (b : Bool) → decides ts step ≡ answer_by (first_reason ts) step
+        → cond b (Refused t.1) (decides ts step) ≡ answer_by (cond b (Some t.1) (first_reason ts)) step
+    by_test true e = refl
+    by_test false e = e
