@@ -168,5 +168,6 @@ update_heard past live pending u seal same is =
   where
     m : Heard
     m = heard_update u seal
+
     places : place_here (with_pending live pending) ≡ place_here live
     places = λ i. record (place_here live) { seat = record (place_here live).seat { clients = same i } }

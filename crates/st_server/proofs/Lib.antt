@@ -2,3 +2,4 @@
 pub mod CutLaws
 pub mod NoteLaws
 pub mod HearLaws
+pub mod SealedLaws
