@@ -3,3 +3,4 @@ pub mod CutLaws
 pub mod NoteLaws
 pub mod HearLaws
 pub mod SealedLaws
+pub mod LiveLaws

@@ -1,5 +1,20 @@
-use st_message::Here;
+ghost use Rattle.std.specs.Prelude.{◌≡◌, ℕ, ◌+◌, ◌-◌, ◌^◌, ◌<◌, ◌≤◌, cond, List, ◌++◌, length, IsTrue, IfOk, OnOk, OnErr, IsOkUnless};
+ghost use Rattle.st_fields.specs.declared.error.WordsError.TheVariants as words;
+ghost use Rattle.st_message.specs.declared.change.Change.TheVariants as changes;
+ghost use Rattle.st_protocol.specs.State.{Answers};
+ghost use Rattle.st_protocol.specs.Growth.{after};
+ghost use Rattle.st_state.specs.Placed.{is_placed};
+ghost use Rattle.st_protocol.specs.Questions.{last_after, runs_for, ops_of};
+ghost use Rattle.st_state.specs.ClientsView.{last_of, place_of};
+ghost use Rattle.st_server.specs.Service.{kept_count};
+ghost use Rattle.st_server.specs.LiveView.{place_here, IsLive};
+
+use st_fields::WordsError;
+use st_message::{Change, Here, Proof};
+use st_seal::Quorum;
 use st_state::{Clients, Hand, Own, Pending, Slots};
+use st_words::{Number, Statement, Value};
+use std::alloc::Global;
 
 /// The short state of a server: all that its duties look at at an event but the log, the proofs and the
 /// Replies. It is bounded, and a copy shares what it holds.
@@ -13,4 +28,156 @@ pub struct Live {
     pub slots: Slots,
     pub hand: Hand,
     pub own: Own,
+}
+
+impl Live {
+    /// Notes a change that is placed here.
+    pub fn note(&mut self, alloc: Global, change: &Change) -> Result<(), WordsError>
+        requires { IsTrue (is_placed (place_here self.old) change.now) }
+        ensures ok { OnOk result ((q : Answers) → IsLive self.old q → IsLive self.new (after q change.now)) }
+        ensures err { OnErr result (self.new ≡ self.old) }
+        ensures memory { IsOkUnless result words.OutOfMemory }
+    {
+        match change {
+            Change::Made { leaf, statement } => self.note_made(alloc, *leaf, statement)?,
+            Change::Prepared { statement, quorum } => {
+                self.note_prepared(alloc, statement, quorum)?
+            }
+            Change::Accepted { statement, quorum } => {
+                self.note_accepted(alloc, statement, quorum)?
+            }
+            Change::Executed { number, proof } => self.note_executed(alloc, *number, proof)?,
+            _ => {}
+        }
+        Ok(())
+    }
+
+    fn note_made(
+        &mut self,
+        alloc: Global,
+        leaf: u32,
+        statement: &Statement,
+    ) -> Result<(), WordsError>
+        requires { IsTrue (is_placed (place_here self.old) (changes.Made leaf statement.now)) }
+        ensures ok { OnOk result ((q : Answers) → IsLive self.old q → IsLive self.new (after q (changes.Made leaf statement.now))) }
+        ensures err { OnErr result (self.new ≡ self.old) }
+        ensures memory { IsOkUnless result words.OutOfMemory }
+    {
+        let here = self.here;
+        match statement {
+            Statement::Prepare { number, .. } => {
+                self.slots
+                    .note_prepare(alloc, &here, leaf, *number, statement)?
+            }
+            Statement::Proposal { number, .. } => {
+                self.slots
+                    .note_proposal(alloc, &here, leaf, *number, statement)?
+            }
+            Statement::Accept { number, .. } => {
+                self.slots
+                    .note_accept(alloc, &here, leaf, *number, statement)?
+            }
+            _ => {}
+        }
+        self.here.leaf += 1;
+        Ok(())
+    }
+
+    fn note_prepared(
+        &mut self,
+        alloc: Global,
+        statement: &Statement,
+        quorum: &Quorum,
+    ) -> Result<(), WordsError>
+        requires { IsTrue (is_placed (place_here self.old) (changes.Prepared statement.now quorum.now)) }
+        ensures ok { OnOk result ((q : Answers) → IsLive self.old q → IsLive self.new (after q (changes.Prepared statement.now quorum.now))) }
+        ensures err { OnErr result (self.new ≡ self.old) }
+        ensures memory { IsOkUnless result words.OutOfMemory }
+    {
+        let here = self.here;
+        if let Statement::Prepare { number, .. } = statement {
+            self.slots
+                .note_prepared(alloc, &here, *number, statement, quorum)?;
+        }
+        Ok(())
+    }
+
+    fn note_accepted(
+        &mut self,
+        alloc: Global,
+        statement: &Statement,
+        quorum: &Quorum,
+    ) -> Result<(), WordsError>
+        requires { IsTrue (is_placed (place_here self.old) (changes.Accepted statement.now quorum.now)) }
+        ensures ok { OnOk result ((q : Answers) → IsLive self.old q → IsLive self.new (after q (changes.Accepted statement.now quorum.now))) }
+        ensures err { OnErr result (self.new ≡ self.old) }
+        ensures memory { IsOkUnless result words.OutOfMemory }
+    {
+        let here = self.here;
+        if let Statement::Proposal { number, .. } = statement {
+            self.slots
+                .note_accepted(alloc, &here, *number, statement, quorum)?;
+        }
+        Ok(())
+    }
+
+    fn note_executed(
+        &mut self,
+        alloc: Global,
+        number: Number,
+        proof: &Proof,
+    ) -> Result<(), WordsError>
+        requires { IsTrue (is_placed (place_here self.old) (changes.Executed number proof.now)) }
+        ensures ok { OnOk result ((q : Answers) → IsLive self.old q → IsLive self.new (after q (changes.Executed number proof.now))) }
+        ensures err { OnErr result (self.new ≡ self.old) }
+        ensures memory { IsOkUnless result words.OutOfMemory }
+    {
+        let here = self.here;
+        let (clients, ran) = self.ran_by(alloc, number, &proof.value)?;
+        self.slots.move_up(&here);
+        self.hand.move_up(&here);
+        self.own.move_up(&here);
+        self.clients = clients;
+        self.ran = ran;
+        self.here.executed += 1;
+        Ok(())
+    }
+
+    // The client table once the value ran at this number, and how many operations the service then keeps.
+    fn ran_by(
+        &self,
+        alloc: Global,
+        number: Number,
+        value: &Value,
+    ) -> Result<(Clients, u32), WordsError>
+        ensures last { IfOk result (λ x. (c : ℕ) → last_of x.0 c ≡ last_after (last_of self.now.clients) value.now c) }
+        ensures place { IfOk result (λ x. (c : ℕ) → place_of x.0 c ≡ cond (runs_for (last_of self.now.clients) value.now c) number.0 (place_of self.now.clients c)) }
+        ensures ran { IfOk result (λ x. (ran : List (List ℕ)) → self.now.ran ≡ kept_count (length ran) → x.1 ≡ kept_count (length (ran ++ ops_of (last_of self.now.clients) value.now))) }
+        ensures memory { IsOkUnless result words.OutOfMemory }
+    {
+        let mut clients = self.clients.copy(alloc)?;
+        if let Value::Update(update) = value {
+            if clients.last(update.client) < update.time {
+                clients.ran(alloc, update.client, update.time, number.0)?;
+                return Ok((clients, self.ran.saturating_add(1)));
+            }
+        }
+        Ok((clients, self.ran))
+    }
+
+    /// An equal state.
+    pub fn copy(&self, alloc: Global) -> Result<Live, WordsError>
+        ensures equal { IfOk result (λ copy. copy ≡ self.now) }
+        ensures memory { IsOkUnless result words.OutOfMemory }
+    {
+        Ok(Live {
+            here: self.here,
+            ran: self.ran,
+            clients: self.clients.copy(alloc)?,
+            pending: self.pending.copy(alloc)?,
+            slots: self.slots.copy(alloc)?,
+            hand: self.hand.copy(alloc)?,
+            own: self.own.copy(alloc)?,
+        })
+    }
 }
