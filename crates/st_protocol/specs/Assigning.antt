@@ -22,6 +22,7 @@ use Rattle.st_protocol.specs.Forced.{Forced, waits, forced_above}
 
 -- ---- updates
 
+-- an update of this time or a later one is pending
 abbrev pub is_seen_update : ℕ → Option Pended → Bool
 is_seen_update time x = given x false (λ k. nat_le time k.update.time)
 
@@ -39,10 +40,12 @@ on_update here pending last reply u seal =
 
 -- ---- assignments
 
+-- the value is a no-op
 abbrev pub is_noop : Value → Bool
 is_noop values.Noop = true
 is_noop (values.Update u) = false
 
+-- no bytes
 abbrev pub is_empty : Bytes → Bool
 is_empty [] = true
 is_empty (x ∷ xs) = false
@@ -61,6 +64,7 @@ prepares here slots leaf view local n value q =
     (when (is_none (slots.made (AtProposal view local n)))
     (making leaf (a_proposal here.seat.site view local n value) forms.Share (to_rep here)))
 
+-- A representative's assignment: the server makes its own Prepare there, and keeps the representative's as a share.
 abbrev pub on_assign : Here → Slots → Forced → ℕ → ℕ → ℕ → Value → Bytes → Signed → Answer
 on_assign here slots forced view local n value client_seal signed =
     let statement : Statement = a_prepare here.seat.site view local n value in
@@ -88,6 +92,7 @@ on_assign here slots forced view local n value client_seal signed =
 
 -- ---- shares
 
+-- A share of a Prepare: it is kept, and where it completes its slot the value is Prepared and proposed.
 abbrev pub on_prepare : Here → Slots → ℕ → ℕ → ℕ → ℕ → Value → Signed → Answer
 on_prepare here slots site view local n value signed =
     let statement : Statement = a_prepare site view local n value in
@@ -103,6 +108,7 @@ on_prepare here slots site view local n value signed =
     ∷ [])
     (then (keeping (messages.Share statement signed)) (when done (prepares here slots here.leaf view local n value (completed here shares statement signed))))
 
+-- A share of a Proposal, at the representative: where it completes its slot the site has spoken.
 abbrev pub on_proposal_share : Here → Slots → ℕ → ℕ → ℕ → ℕ → Value → Signed → Answer
 on_proposal_share here slots site view local n value signed =
     let shares : (ℕ → Option Share) = slots.shares (AtProposal view local n) in
@@ -123,6 +129,7 @@ abbrev pub is_prepare_of : Update → Statement → Bool
 is_prepare_of u (Prepare site view local number (values.Update v)) = same_update u v
 is_prepare_of u _ = false
 
+-- whether a Prepare of the update was made at the present views and a number of the window
 abbrev pub is_assigned : Here → Slots → Update → Bool
 is_assigned here slots u =
     some_below (λ k. given (slots.made (AtPrepare here.view here.local (here.executed + 1 + k))) false (λ m. is_prepare_of u m.statement)) WINDOW
@@ -140,6 +147,7 @@ fill_value here slots pending forced n =
     (given (next_pending here slots pending) None (λ k. Some (values.Update k.update, k.seal))))
     (λ v. Some (v, []))
 
+-- the slots once this statement was made there
 abbrev pub with_made : Slots → Place → Sealing → Slots
 with_made slots p m = record slots { made = λ o. cond (same_place p o) (Some m) (slots.made o) }
 
@@ -149,6 +157,7 @@ pub record Filling : Type 0 where
   pub leaf : ℕ
   pub slots : Slots
 
+-- a Prepare of the value at n is made with the next leaf, and goes out as an assignment
 abbrev pub fill_makes : Here → Filling → ℕ → Value × Bytes → Filling
 fill_makes here filling n x =
     let statement : Statement = a_prepare here.seat.site here.view here.local n x.0 in
@@ -170,6 +179,7 @@ unfoldable pub fills : Here → (ℕ → Option Pended) → Forced → ℕ → �
 fills here pending forced zero n filling = filling
 fills here pending forced (suc k) n filling = given (fill_number here pending forced filling n) filling (fills here pending forced k (n + 1))
 
+-- What a representative of the leader site assigns after an event, once its unions are there.
 unfoldable pub fill : Here → Slots → (ℕ → Option Pended) → Forced → Step
 fill here slots pending forced =
     when (nat_eq here.seat.index (rep here) && nat_eq here.seat.site (leader here) && not (waits forced))

@@ -23,14 +23,17 @@ pub record Tests : Type 0 where
   pub closed : ℕ → ℕ → Bool
   pub logged : Value → Bool
 
+-- the numbers below k, from 0
 unfoldable pub numbers_below : ℕ → List ℕ
 numbers_below zero = []
 numbers_below (suc k) = numbers_below k ++ k ∷ []
 
+-- the members that pass a test
 unfoldable pub members_if : (ℕ → Bool) → List ℕ → List ℕ
 members_if test [] = []
 members_if test (x ∷ xs) = cond (test x) (x ∷ members_if test xs) (members_if test xs)
 
+-- a made seal passes a test
 unfoldable pub some_made : (MadeSeal → Bool) → List MadeSeal → Bool
 some_made test [] = false
 some_made test (x ∷ xs) = test x || some_made test xs
@@ -40,19 +43,23 @@ abbrev pub is_proposal_of : ℕ → ℕ → Value → Statement → Bool
 is_proposal_of view number value (Proposal s g l n v) = nat_eq view g.0 && nat_eq number n.0 && same_value value v
 is_proposal_of view number value _ = false
 
+-- a Proposal at this view, local view and number
 abbrev pub is_proposal_in : ℕ → ℕ → ℕ → Statement → Bool
 is_proposal_in view local number (Proposal s g l n v) = nat_eq view g.0 && nat_eq local l.0 && nat_eq number n.0
 is_proposal_in view local number _ = false
 
+-- an Accept at this view and number
 abbrev pub is_accept_in : ℕ → ℕ → Statement → Bool
 is_accept_in view number (Accept s g n v) = nat_eq view g.0 && nat_eq number n.0
 is_accept_in view number _ = false
 
+-- the view of an Accept
 abbrev pub view_of_accept : Statement → ℕ
 view_of_accept (Accept s g n v) = g.0
 view_of_accept _ = 0
 
 module _ {Wire : Type 0} (d : Deployment Wire) where
+  -- where a server's records leave it
   abbrev pub here_at : World Wire → ℕ → ℕ → Here
   here_at world site index = here_of (seat_of d site index) (joined (world.nodes site index).bodies)
 
@@ -60,6 +67,7 @@ module _ {Wire : Type 0} (d : Deployment Wire) where
   abbrev pub has_made_some : World Wire → ℕ → (Statement → Bool) → ℕ → Bool
   has_made_some world site test index = some_made (λ m. same_who (server_at site index) m.who && test m.statement) world.made
 
+  -- more than half of the sites pass a test
   unfoldable pub majority_of_sites : (ℕ → Bool) → Bool
   majority_of_sites test = nat_lt d.sites (2 * count_below test d.sites)
 
@@ -97,10 +105,12 @@ module _ {Wire : Type 0} (d : Deployment Wire) where
 
 -- ---- safety
 
+-- how many members pass a test
 unfoldable pub count_in : (ℕ → Bool) → List ℕ → ℕ
 count_in test [] = 0
 count_in test (x ∷ xs) = cond (test x) 1 0 + count_in test xs
 
+-- More than half of the members pass a test.
 abbrev pub HasMajority : List ℕ → (ℕ → Bool) → Type 0
 HasMajority members test = length members < 2 * count_in test members
 

@@ -18,6 +18,7 @@ use Rattle.st_protocol.specs.State.{AtAccept, Here, Share, Slots, Word, Hand}
 use Rattle.st_protocol.specs.Growth.{hand_takes, hand_cuts}
 use Rattle.st_protocol.specs.Step.{Answer, then, making, recording, decides, count_below, first_below, all_below, majority, to_rep, not_site, other_view, beyond, not_rep, seen, spent, full, complete, certifies}
 
+-- A share of an Accept, at the representative: where it completes its slot the site has spoken.
 abbrev pub on_accept_share : Here → Slots → ℕ → ℕ → ℕ → Value → Signed → Answer
 on_accept_share here slots site view n value signed =
     let shares : (ℕ → Option Share) = slots.shares (AtAccept view n) in
@@ -31,6 +32,7 @@ on_accept_share here slots site view n value signed =
     ∷ [])
     (certifies here shares (an_accept site view n value) signed scopes.All)
 
+-- The leader site's Proposal: it is Accepted, once a view and number.
 abbrev pub on_proposal : Here → Slots → ℕ → ℕ → ℕ → ℕ → Value → Quorum → Answer
 on_proposal here slots site view local n value q =
     decides
@@ -44,9 +46,11 @@ on_proposal here slots site view local n value q =
 
 -- ---- what is in hand
 
+-- a word that names this value
 abbrev pub names : Value → Option Word → Bool
 names value x = given x false (λ w. same_value w.value value)
 
+-- a site's word, if it names this value
 abbrev pub site_word : Value → (ℕ → Option Word) → ℕ → List SiteWord
 site_word value words s = given (words s) [] (λ w. cond (same_value w.value value) (a_site_word s w.quorum ∷ []) [])
 
@@ -76,6 +80,7 @@ keeps_and_executes here hand m =
       out = [];
     }
 
+-- A site's Accept: it is kept with those of its view, and what is then in hand is executed.
 abbrev pub on_accept : Here → Hand → ℕ → ℕ → ℕ → Value → Quorum → Answer
 on_accept here hand site view n value q =
     decides
@@ -85,6 +90,7 @@ on_accept here hand site view n value q =
     ∷ [])
     (keeps_and_executes here hand (messages.Certificate (an_accept site view n value) q))
 
+-- An order proof: it is kept, and what is then in hand is executed.
 abbrev pub on_order_proof : Here → Hand → ℕ → Proof → Answer
 on_order_proof here hand n p =
     decides (beyond here n ∷ seen (is_some (hand.proof n)) ∷ full n ∷ [])
