@@ -22,7 +22,7 @@ use Rattle.st_protocol.specs.Words.{Bytes, server_at}
 use Rattle.st_protocol.specs.Keeping.{given}
 use Rattle.st_protocol.specs.Duty.{Event, Deliver, Reading, Faulty, Clean}
 use Rattle.st_protocol.specs.Known.{all_of}
-use Rattle.st_protocol.specs.World.{Deployment, Fault, BadReference, Node, Pair, Answered, Customer, World, fresh_node, empty, is_nil, handed, leaf_within, Stepped, stepped, with_node, with_customer, with_waiting, ends, hands, bad_seal, read_known, sends_to, notes_seal, hands_one, hands_out, settled, is_full_by, is_stopped_by, stands_full, stands_stopped, plan_at, comes_to, by_stand, serves, with_reply, answered, awaits, on_checked_reply, on_reply, client_takes, delivers}
+use Rattle.st_protocol.specs.World.{Deployment, Fault, BadReference, Node, Pair, Answered, Customer, World, fresh_node, empty, is_nil, handed, Stepped, stepped, with_node, with_customer, with_waiting, ends, hands, bad_seal, read_known, sends_to, notes_seal, hands_one, hands_out, settled, is_full_by, is_stopped_by, stands_full, stands_stopped, plan_at, comes_to, by_stand, serves, with_reply, answered, awaits, on_checked_reply, on_reply, client_takes, delivers}
 use Rattle.st_protocol.specs.Schedule.{is_built_line, Flowing, counts, flows_first, flows, submits, is_reference, goes, step, goes_on, steps, world_of}
 use Rattle.st_protocol.specs.Plain.{IsPlain, ArePlain}
 use Rattle.st_protocol.proofs.GatherLaws.{fold-keeps}
@@ -110,19 +110,19 @@ module _ {Wire : Type 0} (d : Deployment Wire) (nothing_written : (changes : Lis
   node_plain world site index node h plain s i = put_plain (nat_eq site s && nat_eq index i) node (world.nodes s i) h (plain s i)
 
   -- noting a seal changes no server
-  notes_nodes : (site index : ℕ) (world : World Wire) (m : Message) → (notes_seal d site index world m).nodes ≡ world.nodes
+  notes_nodes : (site index : ℕ) (world : World Wire) (o : Output) → (notes_seal d site index world o).nodes ≡ world.nodes
   unfolding notes_seal hands
-  notes_nodes site index world m = by_statement (handed site m)
+  notes_nodes site index world o = by_leaf o.leaf (handed site o.message)
     where
-      by_statement : (x : Option Statement) →
-          (given x world (λ s. hands world (server_at site index) (leaf_within s (world.nodes site index).bodies) s)).nodes ≡ world.nodes
-      by_statement None = refl
-      by_statement (Some s) = refl
+      by_leaf : (leaf : Option ℕ) (x : Option Statement) → (given leaf world (λ n. given x world (λ s. hands world (server_at site index) n s))).nodes ≡ world.nodes
+      by_leaf None x = refl
+      by_leaf (Some n) None = refl
+      by_leaf (Some n) (Some s) = refl
 
   -- handing out a message changes no server
   one_nodes : (site index : ℕ) (world : World Wire) (o : Output) → (hands_one d site index world o).nodes ≡ world.nodes
   unfolding hands_one sends_to
-  one_nodes site index world o = notes_nodes site index world o.message
+  one_nodes site index world o = notes_nodes site index world o
 
   -- handing out messages changes no server
   out_nodes : (site index : ℕ) (world : World Wire) (outputs : List Output) → (hands_out d site index world outputs).nodes ≡ world.nodes

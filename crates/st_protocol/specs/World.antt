@@ -17,7 +17,6 @@ use Rattle.st_message.specs.declared.event.Outcome.TheVariants.{Did, Ignored}
 use Rattle.st_message.specs.declared.event.Output.{Output}
 use Rattle.st_message.specs.declared.event.Plan.{Plan}
 use Rattle.st_message.specs.declared.change.Change.{Change}
-use Rattle.st_message.specs.declared.change.Change.TheVariants.{Made}
 use Rattle.st_message.specs.declared.change.Heard.{Heard}
 use Rattle.st_message.specs.declared.made.MadeSeal.{MadeSeal}
 use Rattle.st_message.specs.declared.reason.Reason.TheVariants.{Unknown, BadSeal, NotMine, Seen, OldTime}
@@ -233,21 +232,6 @@ abbrev pub handed : ℕ → Message → Option Statement
 handed site (messages.Assign view local number value client_seal signed) = Some (a_prepare site view.0 local.0 number.0 value)
 handed site m = own_statement m
 
--- the leaf with which a change makes the statement
-abbrev pub leaf_of : Statement → Change → Option ℕ
-leaf_of s (Made leaf t) = cond (same_statement t s) (Some leaf) None
-leaf_of s x = None
-
--- The leaf with which changes make the statement.
-unfoldable pub leaf_in : Statement → List Change → Option ℕ
-leaf_in s [] = None
-leaf_in s (x ∷ xs) = or_else (leaf_of s x) (leaf_in s xs)
-
--- the leaf with which the records made the statement
-unfoldable pub leaf_within : Statement → List (List Change) → ℕ
-leaf_within s [] = 0
-leaf_within s (body ∷ bodies) = given (leaf_in s body) (leaf_within s bodies) (λ leaf. leaf)
-
 -- ---- one field changed
 
 module _ {Wire : Type 0} where
@@ -372,14 +356,14 @@ module _ {Wire : Type 0} (d : Deployment Wire) where
 
   -- ---- what a server's event comes to
 
-  -- the seal of an own message is noted
-  unfoldable pub notes_seal : ℕ → ℕ → World Wire → Message → World Wire
-  notes_seal site index world m =
-      given (handed site m) world (λ s. hands world (server_at site index) (leaf_within s (world.nodes site index).bodies) s)
+  -- the server's own seal in a message, if there is one, is noted with its leaf
+  unfoldable pub notes_seal : ℕ → ℕ → World Wire → Output → World Wire
+  notes_seal site index world o =
+      given o.leaf world (λ leaf. given (handed site o.message) world (λ s. hands world (server_at site index) leaf s))
 
   -- one message of a server's is handed out
   unfoldable pub hands_one : ℕ → ℕ → World Wire → Output → World Wire
-  hands_one site index world o = sends_to (notes_seal site index world o.message) (d.formats.encode o.message) (dests_of o.to)
+  hands_one site index world o = sends_to (notes_seal site index world o) (d.formats.encode o.message) (dests_of o.to)
 
   -- messages of a server's, in order
   abbrev pub hands_out : ℕ → ℕ → World Wire → List Output → World Wire
