@@ -8,3 +8,4 @@ pub mod SameLaws
 pub mod FieldLaws
 pub mod PlanLaws
 pub mod PlainLaws
+pub mod WorldLaws

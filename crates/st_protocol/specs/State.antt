@@ -1,16 +1,12 @@
 -- What the duties ask of a server's state: the answers, grouped as the parts of a server take them.
 use Rattle.std.specs.Prelude.{ℕ, ◌+◌, Bool, false, nat_eq, nat_lt, nat_le, ◌&&◌, Option, Some, None, List}
-use Rattle.st_words.specs.declared.value.Update.{Update}
-use Rattle.st_words.specs.declared.value.Value.{Value}
-use Rattle.st_words.specs.declared.statement.Item.{Item}
 use Rattle.st_words.specs.declared.statement.Statement.{Statement}
 use Rattle.st_words.specs.declared.statement.Statement.TheVariants.{Prepare, Proposal, Accept, LocalVc, GlobalVc, LocalReport, GlobalReport, LocalUnion, GlobalUnion, Reply}
 use Rattle.st_message.specs.declared.log.Entry.{Entry}
-use Rattle.st_message.specs.declared.message.SiteWord.{SiteWord}
 use Rattle.st_message.specs.declared.message.Proof.{Proof}
 use Rattle.st_message.specs.declared.message.ReportBody.{ReportBody}
 use Rattle.st_message.specs.declared.kept as kept
-use Rattle.st_protocol.specs.Words.{Bytes, Quorum, local_of}
+use Rattle.st_protocol.specs.Words.{Bytes, local_of}
 use Rattle.st_protocol.specs.Keeping.{given}
 
 -- ---- where a statement stands
