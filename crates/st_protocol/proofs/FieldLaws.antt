@@ -15,7 +15,7 @@ use Rattle.st_protocol.specs.Keeping.{or_else}
 use Rattle.st_protocol.specs.State.{Answers}
 use Rattle.st_protocol.specs.Growth.{here_after, log_after, making_notes, unions_notes, words_after, slots_notes, slots_takes, slots_cuts, pending_takes, pending_cuts, notes, takes, cuts, after, hears}
 use Rattle.st_protocol.specs.Duty.{Pen, Course, begins, records, keeps, puts, emits, makes, sealed}
-use Rattle.st_protocol.specs.World.{Deployment, Fault, Node, Pair, Customer, World, has_made, pairs_to, with_node, with_customer, with_waiting, uses_leaf, ends, hands, send_fault, sends_to}
+use Rattle.st_protocol.specs.World.{Deployment, Fault, Node, Pair, Customer, World, has_handed, pairs_to, with_node, with_customer, with_waiting, uses_leaf, ends, hands, send_fault, sends_to}
 
 -- ---- the course of an event
 
@@ -328,7 +328,7 @@ module _ {Wire : Type 0} where
   unfolding hands
   waiting_hands world who leaf s = refl
 
-  pub made_hands : (world : World Wire) (who : Who) (leaf : ℕ) (s : Statement) → (hands world who leaf s).made ≡ cond (has_made world.made who s) world.made (world.made ++ record { who = who; leaf = leaf; statement = s } ∷ [])
+  pub made_hands : (world : World Wire) (who : Who) (leaf : ℕ) (s : Statement) → (hands world who leaf s).made ≡ cond (has_handed world.made who leaf s) world.made (world.made ++ record { who = who; leaf = leaf; statement = s } ∷ [])
   unfolding hands
   made_hands world who leaf s = refl
 

@@ -220,6 +220,11 @@ unfoldable pub first_bad : (SealIn → Bool) → List SealIn → Option ℕ
 first_bad good [] = None
 first_bad good (x ∷ xs) = cond (good x) (first_bad good xs) (Some x.place)
 
+-- whether the party handed out this seal: with this leaf over this statement
+unfoldable pub has_handed : List MadeSeal → Who → ℕ → Statement → Bool
+has_handed [] who leaf s = false
+has_handed (x ∷ xs) who leaf s = (same_who x.who who && nat_eq x.leaf leaf && same_statement x.statement s) || has_handed xs who leaf s
+
 -- the statement that a message of a server's own seals
 abbrev pub own_statement : Message → Option Statement
 own_statement (messages.Share s signed) = Some s
@@ -259,7 +264,7 @@ module _ {Wire : Type 0} where
   -- a seal is handed out: it is noted where it wasn't before
   unfoldable pub hands : World Wire → Who → ℕ → Statement → World Wire
   hands world who leaf s =
-      record world { made = cond (has_made world.made who s) world.made (world.made ++ record { who = who; leaf = leaf; statement = s } ∷ []) }
+      record world { made = cond (has_handed world.made who leaf s) world.made (world.made ++ record { who = who; leaf = leaf; statement = s } ∷ []) }
 
 -- ---- what a world and an event's outcome are together
 

@@ -19,7 +19,7 @@ use Rattle.st_state.specs.HandView.{height_of, word_by, word_of, hand_of, heard_
 use Rattle.st_state.proofs.SlotsLaws.{kept_low}
 
 -- nothing is dropped of nothing
-open_none : {A : Type 0} (b : Bool) → open_if {A = A} b None ≡ None
+pub open_none : {A : Type 0} (b : Bool) → open_if {A = A} b None ≡ None
 open_none true = refl
 open_none false = refl
 
@@ -28,7 +28,7 @@ greatest_alone None = refl
 greatest_alone (Some x) = refl
 
 -- a site's word stands at the number's highest view
-word_stays : (old : Option Words) (s : ℕ) → from word_height (height_of old) (word_of old s) ≡ word_of old s
+pub word_stays : (old : Option Words) (s : ℕ) → from word_height (height_of old) (word_of old s) ≡ word_of old s
 word_stays None s = refl
 word_stays (Some words) s = by_entry words.view (entry words.sites s)
   where

@@ -35,7 +35,7 @@ open_none true = refl
 open_none false = refl
 
 -- what stays at the present view
-stays : (view e g k : ℕ) (old other : Option Completed) → other ≡ open_if (nat_eq view g) old → (k ≤ e → old ≡ None)
+pub stays : (view e g k : ℕ) (old other : Option Completed) → other ≡ open_if (nat_eq view g) old → (k ≤ e → old ≡ None)
     → open_if (nat_eq view g) old ≡ open_if (nat_le view g && nat_lt e k) other
 stays view e g k old other same low = grind (arith, same, low)
 

@@ -85,15 +85,15 @@ whole_low e old n j x past k i = low_kept e n k j i (among (kept e old k) i) x p
 abbrev share : Statement → Signed → Share
 share s signed = record { statement = s; seal = signed.seal }
 
-prepares_stay : (h : Here) (slots : Slots) (g l k i : ℕ) → open_if (is_at h g l) (among (kept h.executed slots.prepare_shares k) i)
+pub prepares_stay : (h : Here) (slots : Slots) (g l k i : ℕ) → open_if (is_at h g l) (among (kept h.executed slots.prepare_shares k) i)
     ≡ open_if (nat_le h.view g && nat_le h.local l && nat_lt h.executed k) (or_else (open_if (is_at h g l) (among (kept h.executed slots.prepare_shares k) i)) None)
 prepares_stay h slots g l k i = stays_at_views h.view h.local h.executed g l k _ (among_low h.executed slots.prepare_shares k i)
 
-proposals_stay : (h : Here) (slots : Slots) (g l k i : ℕ) → open_if (is_at h g l) (among (kept h.executed slots.proposal_shares k) i)
+pub proposals_stay : (h : Here) (slots : Slots) (g l k i : ℕ) → open_if (is_at h g l) (among (kept h.executed slots.proposal_shares k) i)
     ≡ open_if (nat_le h.view g && nat_le h.local l && nat_lt h.executed k) (or_else (open_if (is_at h g l) (among (kept h.executed slots.proposal_shares k) i)) None)
 proposals_stay h slots g l k i = stays_at_views h.view h.local h.executed g l k _ (among_low h.executed slots.proposal_shares k i)
 
-accepts_stay : (h : Here) (slots : Slots) (g k i : ℕ) → open_if (nat_eq h.view g) (among (kept h.executed slots.accept_shares k) i)
+pub accepts_stay : (h : Here) (slots : Slots) (g k i : ℕ) → open_if (nat_eq h.view g) (among (kept h.executed slots.accept_shares k) i)
     ≡ open_if (nat_le h.view g && nat_lt h.executed k) (or_else (open_if (nat_eq h.view g) (among (kept h.executed slots.accept_shares k) i)) None)
 accepts_stay h slots g k i = stays_at_view h.view h.executed g k _ (among_low h.executed slots.accept_shares k i)
 

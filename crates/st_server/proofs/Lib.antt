@@ -1,0 +1,3 @@
+-- Lemmas.
+pub mod CutLaws
+pub mod NoteLaws
