@@ -58,7 +58,8 @@ pub record Formats (Wire : Type 0) : Type 0 where
   -- the bytes that a body adds to its journal's file
   pub body_size : List Change → ℕ
 
--- Messages are passed as they are: nothing can be wrong with one, nothing is counted, and no body is written.
+-- Messages are passed as they are: nothing can be wrong with one, no bytes are counted, and no body is written. A raw
+-- line isn't built, so that what it would deliver is never asked.
 abbrev pub passed : (Who → ℕ → Statement → Bytes) → Formats Message
 passed seal =
     record {
