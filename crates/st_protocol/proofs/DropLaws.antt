@@ -13,18 +13,22 @@ use Rattle.st_protocol.specs.Questions.{questions}
 use Rattle.st_protocol.specs.Growth.{here_after, notes, cuts, nothing, notes_all, takes_all, grown, after}
 use Rattle.st_protocol.proofs.QuestionLaws.{questions_grow}
 
+-- what is dropped by a test is dropped
 again : {A : Type 0} (b : Bool) (x : Option A) → open_if b (open_if b x) ≡ open_if b x
 again true x = refl
 again false x = refl
 
+-- what is below a key is dropped
 from-again : {A : Type 0} (key : A → ℕ) (n : ℕ) (x : Option A) → from key n (from key n x) ≡ from key n x
 from-again key n None = refl
 from-again key n (Some x) = grind (arith, nat_tests)
 
+-- words below the highest view are dropped
 words-again : {A : Type 0} (b : Bool) (key : A → ℕ) (top : ℕ) (x : Option A) → open_if b (from key (cond b top 0) (open_if b (from key top x))) ≡ open_if b (from key top x)
 words-again false key top x = refl
 words-again true key top x = from-again key top x
 
+-- so is the highest view
 top-again : (b : Bool) (top : ℕ) → cond b (cond b top 0) 0 ≡ cond b top 0
 top-again true top = refl
 top-again false top = refl
@@ -65,6 +69,7 @@ cut_twice q = λ i.
           };
     }
 
+-- Of the answers nothing is left to drop.
 pub questions_cut : (seat : Seat) (records : List (List Change)) (heard : List Heard) → cuts (questions seat records heard) ≡ questions seat records heard
 unfolding grown
 questions_cut seat records heard =
@@ -78,6 +83,7 @@ place-leaf k s h (AtPrepare g l n) = refl
 place-leaf k s h (AtProposal g l n) = refl
 place-leaf k s h (AtAccept g n) = refl
 
+-- nor a term
 term-leaf : (k : ℕ) (s : Statement) (h : Here) (t : Term) → open_term (here_after (Made k s) h) t ≡ open_term h t
 term-leaf k s h (OfLocal x) = refl
 term-leaf k s h (OfGlobal y) = refl
@@ -108,14 +114,17 @@ made_apart q k s = λ i.
 pub made_drops_nothing : (q : Answers) (k : ℕ) (s : Statement) → cuts q ≡ q → after q (Made k s) ≡ notes q (Made k s)
 made_drops_nothing q k s h = made_apart q k s ∙ ap (λ z. notes z (Made k s)) h
 
+-- Nor does a Prepared.
 pub prepared_drops_nothing : (q : Answers) (s : Statement) (w : Quorum) → cuts q ≡ q → after q (Prepared s w) ≡ notes q (Prepared s w)
 unfolding after notes cuts
 prepared_drops_nothing q s w h = ap (λ z. notes z (Prepared s w)) h
 
+-- Nor does an Accepted.
 pub accepted_drops_nothing : (q : Answers) (s : Statement) (w : Quorum) → cuts q ≡ q → after q (Accepted s w) ≡ notes q (Accepted s w)
 unfolding after notes cuts
 accepted_drops_nothing q s w h = ap (λ z. notes z (Accepted s w)) h
 
+-- Nor does a Union.
 pub union_drops_nothing : (q : Answers) (s : Statement) (w : Quorum) → cuts q ≡ q → after q (Union s w) ≡ notes q (Union s w)
 unfolding after notes cuts
 union_drops_nothing q s w h = ap (λ z. notes z (Union s w)) h

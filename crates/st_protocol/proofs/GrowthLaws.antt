@@ -16,20 +16,24 @@ use Rattle.st_protocol.proofs.GatherLaws.{joined-push}
 
 -- ---- of what is kept and dropped
 
+-- what is dropped at the end may be dropped before
 pub open-step : {A : Type 0} (b : Bool) (f : Option A → Option A) (x : Option A) → open_if b (f x) ≡ open_if b (f (open_if b x))
 open-step true f x = refl
 open-step false f x = refl
 
+-- so may what is below a key, of the greatest
 from-greatest : {A : Type 0} (key : A → ℕ) (n : ℕ) (x y : Option A) → from key n (greatest key x y) ≡ from key n (greatest key (from key n x) y)
 from-greatest key n None y = refl
 from-greatest key n (Some x) None = grind (arith, nat_tests)
 from-greatest key n (Some x) (Some y) = grind (arith, nat_tests)
 
+-- and of the greatest, of equals the last
 from-greatest_last : {A : Type 0} (key : A → ℕ) (n : ℕ) (x y : Option A) → from key n (greatest_last key x y) ≡ from key n (greatest_last key (from key n x) y)
 from-greatest_last key n None y = refl
 from-greatest_last key n (Some x) None = grind (arith, nat_tests)
 from-greatest_last key n (Some x) (Some y) = grind (arith, nat_tests)
 
+-- what is below a greater key may be dropped by a lower one first
 pub from-from : {A : Type 0} (key : A → ℕ) (m n : ℕ) (x : Option A) → m ≤ n → from key n x ≡ from key n (from key m x)
 from-from key m n None h = refl
 from-from key m n (Some x) h = grind (arith, nat_tests)
@@ -43,17 +47,20 @@ words-take true key top more None y = refl
 words-take true key top more (Some x) None = grind (arith, nat_tests)
 words-take true key top more (Some x) (Some y) = grind (arith, nat_tests)
 
+-- the highest view may be dropped before
 top-take : (b : Bool) (top more : ℕ) → cond b (max top more) 0 ≡ cond b (max (cond b top 0) more) 0
 top-take true top more = refl
 top-take false top more = refl
 
 -- ---- the bounds rise
 
+-- k is nowhere below h.
 pub record Rises (h k : Here) : Type 0 where
   pub view : h.view ≤ k.view
   pub local : h.local ≤ k.local
   pub executed : h.executed ≤ k.executed
 
+-- A change leaves a server nowhere below.
 pub rises : (x : Change) (h : Here) → Rises h (here_after x h)
 rises (EnterLocal y q) h = record { view = omega arith; local = omega arith; executed = omega arith }
 rises (EnterGlobal y ss) h = record { view = omega arith; local = omega arith; executed = omega arith }
@@ -63,10 +70,12 @@ rises (Accepted s q) h = record { view = omega arith; local = omega arith; execu
 rises (Union s q) h = record { view = omega arith; local = omega arith; executed = omega arith }
 rises (Executed n p) h = record { view = omega arith; local = omega arith; executed = omega arith }
 
+-- a client's last time never falls
 last-rises : (last : ℕ → ℕ) (v : Value) (c : ℕ) → last c ≤ last_after last v c
 last-rises last values.Noop c = omega arith
 last-rises last (values.Update u) c = grind (arith, nat_tests)
 
+-- whatever is recorded
 log-rises : (x : Change) (h : Here) (log : Log) (c : ℕ) → log.run.last c ≤ (log_after x h log).run.last c
 unfolding runs
 log-rises (EnterLocal y q) h log c = omega arith
@@ -77,28 +86,35 @@ log-rises (Accepted s q) h log c = omega arith
 log-rises (Union s q) h log c = omega arith
 log-rises (Executed n p) h log c = last-rises log.run.last p.value c
 
+-- A slot below a state is below every later one.
 pub place-rises : {A : Type 0} (h k : Here) → Rises h k → (p : Place) (x : Option A) → open_if (open_place k p) x ≡ open_if (open_place k p) (open_if (open_place h p) x)
 place-rises h k r (AtPrepare g l n) x = let a = r.view in let b = r.local in let c = r.executed in grind (arith, nat_tests)
 place-rises h k r (AtProposal g l n) x = let a = r.view in let b = r.local in let c = r.executed in grind (arith, nat_tests)
 place-rises h k r (AtAccept g n) x = let a = r.view in let b = r.local in let c = r.executed in grind (arith, nat_tests)
 
+-- So is a view, for what is of it.
 pub term-rises : {A : Type 0} (h k : Here) → Rises h k → (t : Term) (x : Option A) → open_if (open_term k t) x ≡ open_if (open_term k t) (open_if (open_term h t) x)
 term-rises h k r (OfLocal l) x = let b = r.local in grind (arith, nat_tests)
 term-rises h k r (OfGlobal g) x = let a = r.view in grind (arith, nat_tests)
 
+-- So is a view, for what asks for it.
 pub vc-rises : {A : Type 0} (h k : Here) → Rises h k → (t : Term) (x : Option A) → open_if (open_vc k t) x ≡ open_if (open_vc k t) (open_if (open_vc h t) x)
 vc-rises h k r (OfLocal l) x = let b = r.local in grind (arith, nat_tests)
 vc-rises h k r (OfGlobal g) x = let a = r.view in grind (arith, nat_tests)
 
+-- So is a number.
 pub number-rises : {A : Type 0} (h k : Here) → Rises h k → (n : ℕ) (x : Option A) → open_if (open_number k n) x ≡ open_if (open_number k n) (open_if (open_number h n) x)
 number-rises h k r n x = let c = r.executed in grind (arith, nat_tests)
 
+-- So is a number at a view.
 pub at-rises : {A : Type 0} (h k : Here) → Rises h k → (g n : ℕ) (x : Option A) → open_if (open_at k g n) x ≡ open_if (open_at k g n) (open_if (open_at h g n) x)
 at-rises h k r g n x = let a = r.view in let c = r.executed in grind (arith, nat_tests)
 
+-- so is the highest view of a number
 top-rises : (h k : Here) → Rises h k → (n top : ℕ) → cond (open_number k n) top 0 ≡ cond (open_number k n) (cond (open_number h n) top 0) 0
 top-rises h k r n top = let c = r.executed in grind (arith, nat_tests)
 
+-- so are its words
 words-rise : {A : Type 0} (h k : Here) → Rises h k → (key : A → ℕ) (n top : ℕ) (x : Option A) →
     open_if (open_number k n) (from key top x) ≡ open_if (open_number k n) (from key (cond (open_number h n) top 0) (open_if (open_number h n) (from key top x)))
 words-rise h k r key n top None = let c = r.executed in grind (arith, nat_tests)
@@ -194,6 +210,7 @@ cut_rises q x =
 
 -- ---- over lists
 
+-- recording and hearing much don't look at one another
 apart_all : (q : Answers) (x : Change) (heard : List Heard) → takes_all (notes q x) heard ≡ notes (takes_all q heard) x
 apart_all q x [] = refl
 apart_all q x (m ∷ ms) = ap (λ z. takes_all z ms) (apart q x m) ∙ apart_all (takes q m) x ms
@@ -205,6 +222,7 @@ more q heard [] = refl
 more q heard (x ∷ xs) =
     more (notes q x) heard xs ∙ ap (λ z. after_all z xs) (ap cuts (apart_all q x heard) ∙ cut_rises (takes_all q heard) x)
 
+-- One body more.
 pub grown_body : (seat : Seat) (records : List (List Change)) (heard : List Heard) (body : List Change) →
     grown seat (records ++ body ∷ []) heard ≡ after_all (grown seat records heard) body
 unfolding grown
@@ -213,6 +231,7 @@ grown_body seat records heard body =
     ∙ ap (λ z. cuts (takes_all z heard)) (fold-append notes (nothing seat) (joined records) body)
     ∙ more (notes_all (nothing seat) (joined records)) heard body
 
+-- One thing heard more.
 pub grown_heard : (seat : Seat) (records : List (List Change)) (heard : List Heard) (m : Heard) →
     grown seat records (heard ++ m ∷ []) ≡ hears (grown seat records heard) m
 unfolding grown hears

@@ -29,22 +29,27 @@ use Rattle.st_protocol.proofs.GatherLaws.{fold-keeps}
 
 -- ---- one server
 
+-- neither of two tests holds
 both_false : {A : Type 0} (a b : Bool) (x y z : A) → a ≡ false → b ≡ false → cond a x (cond b y z) ≡ z
 both_false a b x y z e f = rw (e, f) refl
 
+-- an empty journal isn't full
 not_full : (b : Bool) (n : ℕ) → n ≡ 9 → (b && nat_lt MOST_JOURNAL n) ≡ false
 not_full true n e = rw e refl
 not_full false n e = refl
 
+-- no stop is set
 not_stopped : (b : Bool) (stop : ℕ) → stop ≡ 0 → (b && nat_lt 0 stop && nat_le stop 4) ≡ false
 not_stopped true stop e = rw e refl
 not_stopped false stop e = refl
 
+-- two numbers that are the same
 either : (b : Bool) (x y n : ℕ) → x ≡ n → y ≡ n → cond b x y ≡ n
 either true x y n e f = e
 either false x y n e f = f
 
 module _ {Wire : Type 0} (d : Deployment Wire) (nothing_written : (changes : List Change) → d.formats.body_size changes ≡ 0) where
+  -- a server after a plan that is handed out
   settled_plain : (node : Node) (plan : Plan) → IsPlain node → IsPlain (settled d node plan)
   settled_plain node plan plain =
       let stop = plain.no_stop in
@@ -80,42 +85,50 @@ module _ {Wire : Type 0} (d : Deployment Wire) (nothing_written : (changes : Lis
 
   -- ---- the world
 
+  -- all servers of the world after an event
   abbrev Plainly : Stepped Wire → Type 0
   Plainly st = ArePlain st.world
 
+  -- after either of two events
   if_plainly : (b : Bool) (x y : Stepped Wire) → Plainly x → Plainly y → Plainly (cond b x y)
   if_plainly true x y h k = h
   if_plainly false x y h k = k
 
+  -- in a world with the same servers
   same_plain : (old new : World Wire) → new.nodes ≡ old.nodes → ArePlain old → ArePlain new
   unfolding ArePlain
   same_plain old new same plain site index = subst (λ (nodes : ℕ → ℕ → Node). IsPlain (nodes site index)) (sym same) (plain site index)
 
+  -- either of two servers
   put_plain : (b : Bool) (x y : Node) → IsPlain x → IsPlain y → IsPlain (cond b x y)
   put_plain true x y h k = h
   put_plain false x y h k = k
 
+  -- in a world with one server changed
   node_plain : (world : World Wire) (site index : ℕ) (node : Node) → IsPlain node → ArePlain world → ArePlain (with_node world site index node)
   unfolding ArePlain with_node
   node_plain world site index node h plain s i = put_plain (nat_eq site s && nat_eq index i) node (world.nodes s i) h (plain s i)
 
+  -- noting a seal changes no server
   notes_nodes : (site index : ℕ) (world : World Wire) (o : Output) → (notes_seal d site index world o).nodes ≡ world.nodes
   unfolding notes_seal hands
   notes_nodes site index world o = by_leaf o.leaf (handed site o.message)
     where
-      by_leaf : (k : Option ℕ) (x : Option Statement) →
-          (given k world (λ leaf. given x world (λ s. hands world (server_at site index) leaf s))).nodes ≡ world.nodes
+      by_leaf : (leaf : Option ℕ) (x : Option Statement) → (given leaf world (λ n. given x world (λ s. hands world (server_at site index) n s))).nodes ≡ world.nodes
       by_leaf None x = refl
-      by_leaf (Some leaf) None = refl
-      by_leaf (Some leaf) (Some s) = refl
+      by_leaf (Some n) None = refl
+      by_leaf (Some n) (Some s) = refl
 
+  -- handing out a message changes no server
   one_nodes : (site index : ℕ) (world : World Wire) (o : Output) → (hands_one d site index world o).nodes ≡ world.nodes
   unfolding hands_one sends_to
   one_nodes site index world o = notes_nodes site index world o
 
+  -- handing out messages changes no server
   out_nodes : (site index : ℕ) (world : World Wire) (outputs : List Output) → (hands_out d site index world outputs).nodes ≡ world.nodes
   out_nodes site index world outputs = fold-keeps (λ (w : World Wire). w.nodes) (hands_one d site index) (one_nodes site index) world outputs
 
+  -- after a plan that is handed out
   out_plain : (world : World Wire) (site index : ℕ) (plan : Plan) → ArePlain world → IsPlain (world.nodes site index) →
       ArePlain (hands_out d site index (with_node world site index (settled d (world.nodes site index) plan)) plan.outputs)
   out_plain world site index plan plain here =
@@ -124,14 +137,17 @@ module _ {Wire : Type 0} (d : Deployment Wire) (nothing_written : (changes : Lis
       (out_nodes site index (with_node world site index (settled d (world.nodes site index) plan)) plan.outputs)
       (node_plain world site index (settled d (world.nodes site index) plan) (settled_plain (world.nodes site index) plan here) plain)
 
+  -- a faulty server changes nothing
   faulty_serves : (world : World Wire) (site index : ℕ) (event : Event Wire) → d.faulty site index ≡ true → serves d world site index event ≡ stepped world done.Faulty
   unfolding serves
   faulty_serves world site index event faulty = ap (λ b. cond b (stepped world done.Faulty) (by_stand d world site index event (world.nodes site index).stand)) faulty
 
+  -- each server of such a world
   at_node : (world : World Wire) → ArePlain world → (site index : ℕ) → IsPlain (world.nodes site index)
   unfolding ArePlain
   at_node world plain = plain
 
+  -- after an event of a server
   serves_plain : (world : World Wire) (site index : ℕ) (event : Event Wire) → ArePlain world → Plainly (serves d world site index event)
   serves_plain world site index event plain = by_fault (d.faulty site index) refl
     where
@@ -143,14 +159,17 @@ module _ {Wire : Type 0} (d : Deployment Wire) (nothing_written : (changes : Lis
 
   -- ---- what a client takes
 
+  -- after what an option chooses
   given_plainly : {A : Type 0} (x : Option A) (none : Stepped Wire) (some : A → Stepped Wire) → Plainly none → ((a : A) → Plainly (some a)) → Plainly (given x none some)
   given_plainly None none some h k = h
   given_plainly (Some a) none some h k = k a
 
+  -- in a world with one client changed
   customer_plain : (world : World Wire) (client : ℕ) (customer : Customer) → ArePlain world → ArePlain (with_customer world client customer)
   unfolding ArePlain with_customer
   customer_plain world client customer plain = plain
 
+  -- after a Reply whose seal checks
   checked_plain : (world : World Wire) (client : ℕ) (customer : Customer) (site index time : ℕ) (a : Answered) → ArePlain world →
       Plainly (on_checked_reply d world client customer site index time a)
   unfolding on_checked_reply
@@ -159,6 +178,7 @@ module _ {Wire : Type 0} (d : Deployment Wire) (nothing_written : (changes : Lis
       (if_plainly (is_some (customer.replies site index)) _ _ plain (customer_plain world client (answered d (with_reply d customer site index a) site a) plain))
       plain
 
+  -- after a Reply
   reply_plain : (world : World Wire) (client : ℕ) (m : Message) (s : Statement) (signed : Signed) → ArePlain world → Plainly (on_reply d world client m s signed)
   reply_plain world client m (Reply site to time number result) signed plain =
       if_plainly (nat_eq client to.0) _ _
@@ -167,11 +187,13 @@ module _ {Wire : Type 0} (d : Deployment Wire) (nothing_written : (changes : Lis
       plain
   reply_plain world client m _ signed plain = plain
 
+  -- after a message at a client
   client_plain : (world : World Wire) (client : ℕ) (r : Reading) → ArePlain world → Plainly (client_takes d world client r)
   client_plain world client (Faulty reason) plain = plain
   client_plain world client (Clean (messages.Reply s signed)) plain = reply_plain world client (messages.Reply s signed) s signed plain
   client_plain world client (Clean _) plain = plain
 
+  -- after a delivery
   delivers_plain : (world : World Wire) (to : Dest) (wire : Wire) → ArePlain world → Plainly (delivers d world to wire)
   unfolding delivers
   delivers_plain world (dests.Server server) wire plain = serves_plain world server.site server.index (Deliver wire) plain
@@ -179,10 +201,12 @@ module _ {Wire : Type 0} (d : Deployment Wire) (nothing_written : (changes : Lis
 
   -- ---- the lines
 
+  -- in a world where less waits
   waiting_plain : (world : World Wire) (pairs : List Pair) → ArePlain world → ArePlain (with_waiting world pairs)
   unfolding ArePlain with_waiting
   waiting_plain world pairs plain = plain
 
+  -- after the oldest pair
   first_plain : (x : Flowing Wire) (pairs : List Pair) → ArePlain x.world → ArePlain (flows_first d x pairs).world
   unfolding flows_first
   first_plain x [] plain = plain
@@ -192,29 +216,35 @@ module _ {Wire : Type 0} (d : Deployment Wire) (nothing_written : (changes : Lis
       by_wire None = plain
       by_wire (Some sent) = delivers_plain (with_waiting x.world ps) p.to sent (waiting_plain x.world ps plain)
 
+  -- after a flow
   flows_plain : (k : ℕ) (x : Flowing Wire) → ArePlain x.world → ArePlain (flows d k x).world
   unfolding flows
   flows_plain zero x plain = plain
   flows_plain (suc k) x plain = flows_plain k (flows_first d x x.world.waiting) (first_plain x x.world.waiting plain)
 
+  -- after a client's update
   submits_plain : (world : World Wire) (client : ℕ) (op : Bytes) → ArePlain world → Plainly (submits d world client op)
   unfolding submits sends_to hands with_customer ArePlain
   submits_plain world client op plain = if_plainly (nat_le d.capacity (world.customers client).time) _ _ plain plain
 
+  -- after a line that is built
   goes_plain : (world : World Wire) (line : Line) → is_built_line line ≡ true → ArePlain world → Plainly (goes d world line)
   goes_plain world (lines.Client client op) built plain = submits_plain world client.0 op plain
   goes_plain world (lines.Flow k) built plain = flows_plain k (record { world = world; pairs = 0; did = 0; ignored = 0 }) plain
   goes_plain world (lines.Show m) built plain = absurd (let no : false ≡ true = built in cc)
   goes_plain world _ built plain = absurd (let no : false ≡ true = built in cc)
 
+  -- in a world that ends
   ends_plain : (world : World Wire) (fault : Option Fault) → ArePlain world → ArePlain (ends world fault)
   unfolding ArePlain ends
   ends_plain world fault plain = plain
 
+  -- after a line, whether or not what it names is there
   step_plain : (world : World Wire) (line : Line) → is_built_line line ≡ true → ArePlain world → Plainly (step d world line)
   unfolding step
   step_plain world line built plain = if_plainly (is_reference d world line) _ _ (goes_plain world line built plain) (ends_plain world (Some BadReference) plain)
 
+  -- after lines
   steps_plain : (world : World Wire) (all : List Line) → all_of is_built_line all ≡ true → ArePlain world → ArePlain (steps d world all)
   unfolding all_of
   steps_plain world [] built plain = plain
@@ -222,6 +252,7 @@ module _ {Wire : Type 0} (d : Deployment Wire) (nothing_written : (changes : Lis
       let parts = and_parts (is_built_line line) (all_of is_built_line more) built in
       steps_plain (goes_on d world line) more parts.1 (step_plain world line parts.0 plain)
 
+  -- at first
   empty_plain : ArePlain (empty {Wire = Wire})
   unfolding ArePlain empty fresh_node
   empty_plain site index = record { running = refl; no_stop = refl; not_apart = refl; empty_journal = refl }

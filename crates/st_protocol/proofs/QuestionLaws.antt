@@ -17,10 +17,12 @@ use Rattle.st_protocol.proofs.GrowthLaws.{Rises, rises, open-step, place-rises, 
 
 -- ---- what is recorded and cut at each change is gathered and cut once
 
+-- nothing is dropped of nothing
 none-open : {A : Type 0} (b : Bool) → open_if {A = A} b None ≡ None
 none-open true = refl
 none-open false = refl
 
+-- recording leaves a server nowhere below
 up : (q : Answers) (x : Change) → Rises q.here (notes q x).here
 unfolding notes
 up q x = rises x q.here
@@ -28,6 +30,7 @@ up q x = rises x q.here
 module _ {A : Type 0} {join : Option A → Option A → Option A} (g : Gathers join None) (get : Answers → Option A) (open_ : Here → Bool) (pick : Change → Option A)
     (step : (q : Answers) (x : Change) → get (notes q x) ≡ open_if (open_ (notes q x).here) (join (get q) (pick x)))
     (rise : (h k : Here) → Rises h k → (z : Option A) → open_if (open_ k) z ≡ open_if (open_ k) (open_if (open_ h) z)) where
+  -- one change
   cut_step : (q : Answers) (x : Change) (z : Option A) → get q ≡ open_if (open_ q.here) z → get (notes q x) ≡ open_if (open_ (notes q x).here) (join z (pick x))
   cut_step q x z h =
       step q x
@@ -36,6 +39,7 @@ module _ {A : Type 0} {join : Option A → Option A → Option A} (g : Gathers j
       ∙ ap (λ y. open_if (open_ (notes q x).here) (join y (pick x))) (sym (rise q.here (notes q x).here (up q x) z))
       ∙ sym (open-step (open_ (notes q x).here) (λ y. join y (pick x)) z)
 
+  -- changes in order
   cut_once : (q : Answers) (z : Option A) (xs : List Change) → get q ≡ open_if (open_ q.here) z →
       get (notes_all q xs) ≡ open_if (open_ (notes_all q xs).here) (join z (gathered join None pick xs))
   unfolding gathered
@@ -46,6 +50,7 @@ module _ {A : Type 0} {join : Option A → Option A → Option A} (g : Gathers j
 
 -- ---- where the records leave the server
 
+-- a change raises the view to the one that it enters
 view-step : (h : Here) (x : Change) → (here_after x h).view ≡ max h.view (view_entered x)
 view-step h (EnterLocal y q) = omega arith
 view-step h (EnterGlobal y ws) = omega arith
@@ -55,6 +60,7 @@ view-step h (Accepted s q) = omega arith
 view-step h (Union s q) = omega arith
 view-step h (Executed n p) = omega arith
 
+-- and the local view
 local-step : (h : Here) (x : Change) → (here_after x h).local ≡ max h.local (local_entered x)
 local-step h (EnterLocal y q) = omega arith
 local-step h (EnterGlobal y ws) = omega arith
@@ -64,6 +70,7 @@ local-step h (Accepted s q) = omega arith
 local-step h (Union s q) = omega arith
 local-step h (Executed n p) = omega arith
 
+-- it counts an executed number
 executed-step : (h : Here) (x : Change) → (here_after x h).executed ≡ h.executed + cond (is_executed x) 1 0
 executed-step h (EnterLocal y q) = omega arith
 executed-step h (EnterGlobal y ws) = omega arith
@@ -73,6 +80,7 @@ executed-step h (Accepted s q) = omega arith
 executed-step h (Union s q) = omega arith
 executed-step h (Executed n p) = omega arith
 
+-- and a leaf
 leaf-step : (h : Here) (x : Change) → (here_after x h).leaf ≡ h.leaf + cond (is_made x) 1 0
 leaf-step h (EnterLocal y q) = omega arith
 leaf-step h (EnterGlobal y ws) = omega arith
@@ -82,6 +90,7 @@ leaf-step h (Accepted s q) = omega arith
 leaf-step h (Union s q) = omega arith
 leaf-step h (Executed n p) = omega arith
 
+-- it leaves the seat
 seat-step : (h : Here) (x : Change) → (here_after x h).seat ≡ h.seat
 seat-step h (EnterLocal y q) = refl
 seat-step h (EnterGlobal y ws) = refl
@@ -91,6 +100,7 @@ seat-step h (Accepted s q) = refl
 seat-step h (Union s q) = refl
 seat-step h (Executed n p) = refl
 
+-- Where changes leave a server is counted over them.
 pub here_is : (seat : Seat) (xs : List Change) → (notes_all (nothing seat) xs).here ≡ here_of seat xs
 unfolding notes nothing here_of
 here_is seat xs = λ i.
@@ -104,6 +114,7 @@ here_is seat xs = λ i.
 
 -- ---- the log
 
+-- the log is the run of the executed values
 run_is : (q : Answers) (xs : List Change) → (notes_all q xs).log.run ≡ run_on q.here.seat.serve q.log.run (executed_in xs)
 unfolding notes executed_in
 run_is q [] = refl
@@ -115,15 +126,18 @@ run_is q (Accepted s w ∷ xs) = run_is (notes q (Accepted s w)) xs
 run_is q (Union s w ∷ xs) = run_is (notes q (Union s w)) xs
 run_is q (Executed n p ∷ xs) = run_is (notes q (Executed n p)) xs
 
+-- an element of a list with one more
 slice_get-push : {A : Type 0} (xs : List A) (x : A) (k : ℕ) → slice_get (xs ++ x ∷ []) k ≡ cond (nat_eq (length xs) k) (Some x) (slice_get xs k)
 slice_get-push [] x zero = refl
 slice_get-push [] x (suc k) = grind (arith, nat_tests)
 slice_get-push (y ∷ ys) x zero = grind (arith, nat_tests)
 slice_get-push (y ∷ ys) x (suc k) = slice_get-push ys x k ∙ grind (arith, nat_tests)
 
+-- the same from 1
 numbered-push : {A : Type 0} (xs : List A) (x : A) (n : ℕ) → numbered (xs ++ x ∷ []) n ≡ cond (nat_eq (length xs + 1) n) (Some x) (numbered xs n)
 numbered-push xs x n = let e = slice_get-push xs x (n - 1) in grind (arith, nat_tests)
 
+-- the length of a list with one more
 length-push : {A : Type 0} (xs : List A) (x : A) → length (xs ++ x ∷ []) ≡ length xs + 1
 length-push [] x = refl
 length-push (y ∷ ys) x = let e = length-push ys x in omega (arith, e)
@@ -133,6 +147,7 @@ record HasProofs (q : Answers) (ps : List Proof) : Type 0 where
   count : q.here.executed ≡ length ps
   each : (n : ℕ) → q.log.proof n ≡ numbered ps n
 
+-- one number more
 proof_more : (q : Answers) (ps : List Proof) (k : ℕ) (p : Proof) → q.here.executed ≡ k → k ≡ length ps → ((n : ℕ) → q.log.proof n ≡ numbered ps n) → (n : ℕ) →
     cond (nat_eq (q.here.executed + 1) n) (Some p) (q.log.proof n) ≡ numbered (ps ++ p ∷ []) n
 proof_more q ps k p a b each n =
@@ -140,6 +155,7 @@ proof_more q ps k p a b each n =
     ∙ ap (λ z. cond (nat_eq (length ps + 1) n) (Some p) z) (each n)
     ∙ sym (numbered-push ps p n)
 
+-- numbers in order, from any state on
 proofs_are : (q : Answers) (ps : List Proof) (xs : List Change) → HasProofs q ps → (n : ℕ) → (notes_all q xs).log.proof n ≡ numbered (ps ++ proofs_in xs) n
 unfolding notes proofs_in
 proofs_are q ps [] h n = h.each n ∙ ap (λ z. numbered z n) (sym (append-nil ps))
@@ -154,6 +170,7 @@ proofs_are q ps (Executed m p ∷ xs) h n =
     (record { count = (let c = h.count in let l = length-push ps p in omega (arith, c, l)); each = proof_more q ps (length ps) p h.count refl h.each }) n
     ∙ ap (λ z. numbered z n) (append_assoc ps (p ∷ []) (proofs_in xs))
 
+-- each number's proof
 log_is : (seat : Seat) (xs : List Change) (n : ℕ) → (notes_all (nothing seat) xs).log.proof n ≡ numbered (proofs_in xs) n
 unfolding nothing
 log_is seat xs n = proofs_are (nothing seat) [] xs (record { count = refl; each = λ n. none_numbered n }) n
@@ -165,6 +182,7 @@ log_is seat xs n = proofs_are (nothing seat) [] xs (record { count = refl; each 
 -- ---- why views were entered
 
 module _ {E V : Type 0} (view : E → ℕ) (value : E → V) where
+  -- the value of what was entered, if anything was
   value_by : Option E → Option V
   value_by z = given (from view 1 z) None (λ e. Some (value e))
 
@@ -173,21 +191,26 @@ module _ {E V : Type 0} (view : E → ℕ) (value : E → V) where
     at : l ≡ given z 0 view
     word : w ≡ value_by z
 
+  -- something is entered
   enters : (l : ℕ) (w : Option V) (z : Option E) (e : E) → HasEntered l w z → HasEntered (max l (view e)) (cond (nat_lt l (view e)) (Some (value e)) w) (greatest view z (Some e))
   unfolding value_by
   enters l w None e h = let a = h.at in let b = h.word in record { at = grind (arith, nat_tests); word = grind (arith, nat_tests) }
   enters l w (Some x) e h = let a = h.at in let b = h.word in record { at = grind (arith, nat_tests); word = grind (arith, nat_tests) }
 
+  -- nothing is entered
   rests : (l : ℕ) (w : Option V) (z : Option E) → HasEntered l w z → HasEntered l w (greatest view z None)
   rests l w None h = h
   rests l w (Some x) h = h
 
+-- why a local view was entered
 asked_quorum : Asked → Quorum
 asked_quorum a = a.quorum
 
+-- why a view was entered
 entered_sites : Entered → List SiteWord
 entered_sites e = e.sites
 
+-- a change, for local views
 local_words : (h : Here) (kept : KeptViews) (z : Option Asked) (x : Change) → HasEntered asked_view asked_quorum h.local kept.local z →
     HasEntered asked_view asked_quorum (here_after x h).local (words_after x h kept).local (greatest asked_view z (entering_local x))
 unfolding asked_quorum
@@ -199,6 +222,7 @@ local_words h kept z (Accepted s q) e = rests asked_view asked_quorum h.local ke
 local_words h kept z (Union s q) e = rests asked_view asked_quorum h.local kept.local z e
 local_words h kept z (Executed n p) e = rests asked_view asked_quorum h.local kept.local z e
 
+-- a change, for views
 view_words : (h : Here) (kept : KeptViews) (z : Option Entered) (x : Change) → HasEntered entered_view entered_sites h.view kept.view z →
     HasEntered entered_view entered_sites (here_after x h).view (words_after x h kept).view (greatest entered_view z (entering x))
 unfolding entered_sites
@@ -210,31 +234,29 @@ view_words h kept z (Accepted s q) e = rests entered_view entered_sites h.view k
 view_words h kept z (Union s q) e = rests entered_view entered_sites h.view kept.view z e
 view_words h kept z (Executed n p) e = rests entered_view entered_sites h.view kept.view z e
 
-locals_are : (q : Answers) (z : Option Asked) (xs : List Change) → HasEntered asked_view asked_quorum q.here.local q.words.local z →
-    HasEntered asked_view asked_quorum (notes_all q xs).here.local (notes_all q xs).words.local (greatest asked_view z (gathered (greatest asked_view) None entering_local xs))
-unfolding notes gathered
-locals_are q z [] h = rests asked_view asked_quorum q.here.local q.words.local z h
-locals_are q z (x ∷ xs) h =
-    subst (HasEntered asked_view asked_quorum (notes_all (notes q x) xs).here.local (notes_all (notes q x) xs).words.local)
-    ((greatests asked_view).assoc z (entering_local x) (gathered (greatest asked_view) None entering_local xs))
-    (locals_are (notes q x) (greatest asked_view z (entering_local x)) xs (local_words q.here q.words z x h))
+-- What was entered last stands, whatever was recorded.
+module _ {E V : Type 0} (view : E → ℕ) (value : E → V) (pick : Change → Option E) (height : Here → ℕ) (word : KeptViews → Option V)
+    (step : (h : Here) (kept : KeptViews) (z : Option E) (x : Change) → HasEntered view value (height h) (word kept) z →
+    HasEntered view value (height (here_after x h)) (word (words_after x h kept)) (greatest view z (pick x))) where
+  -- from any state on
+  entered_from : (q : Answers) (z : Option E) (xs : List Change) → HasEntered view value (height q.here) (word q.words) z →
+      HasEntered view value (height (notes_all q xs).here) (word (notes_all q xs).words) (greatest view z (gathered (greatest view) None pick xs))
+  unfolding notes gathered
+  entered_from q z [] h = rests view value (height q.here) (word q.words) z h
+  entered_from q z (x ∷ xs) h =
+      subst (HasEntered view value (height (notes_all (notes q x) xs).here) (word (notes_all (notes q x) xs).words))
+      ((greatests view).assoc z (pick x) (gathered (greatest view) None pick xs))
+      (entered_from (notes q x) (greatest view z (pick x)) xs (step q.here q.words z x h))
 
-views_are : (q : Answers) (z : Option Entered) (xs : List Change) → HasEntered entered_view entered_sites q.here.view q.words.view z →
-    HasEntered entered_view entered_sites (notes_all q xs).here.view (notes_all q xs).words.view (greatest entered_view z (gathered (greatest entered_view) None entering xs))
-unfolding notes gathered
-views_are q z [] h = rests entered_view entered_sites q.here.view q.words.view z h
-views_are q z (x ∷ xs) h =
-    subst (HasEntered entered_view entered_sites (notes_all (notes q x) xs).here.view (notes_all (notes q x) xs).words.view)
-    ((greatests entered_view).assoc z (entering x) (gathered (greatest entered_view) None entering xs))
-    (views_are (notes q x) (greatest entered_view z (entering x)) xs (view_words q.here q.words z x h))
-
+-- why the local view was entered
 local_is : (seat : Seat) (xs : List Change) → (notes_all (nothing seat) xs).words.local ≡ given (from asked_view 1 (gathered (greatest asked_view) None entering_local xs)) None (λ a. Some a.quorum)
 unfolding nothing value_by asked_quorum
-local_is seat xs = (locals_are (nothing seat) None xs (record { at = refl; word = refl })).word
+local_is seat xs = (entered_from asked_view asked_quorum entering_local (λ h. h.local) (λ k. k.local) local_words (nothing seat) None xs (record { at = refl; word = refl })).word
 
+-- why the view was entered
 view_is : (seat : Seat) (xs : List Change) → (notes_all (nothing seat) xs).words.view ≡ given (from entered_view 1 (gathered (greatest entered_view) None entering xs)) None (λ e. Some e.sites)
 unfolding nothing value_by entered_sites
-view_is seat xs = (views_are (nothing seat) None xs (record { at = refl; word = refl })).word
+view_is seat xs = (entered_from entered_view entered_sites entering (λ h. h.view) (λ k. k.view) view_words (nothing seat) None xs (record { at = refl; word = refl })).word
 
 -- ---- both lists
 
@@ -242,6 +264,7 @@ view_is seat xs = (views_are (nothing seat) None xs (record { at = refl; word = 
 abbrev all_noted : Seat → List Change → List Heard → Answers
 all_noted seat xs heard = takes_all (notes_all (nothing seat) xs) heard
 
+-- hearing leaves where a server stands
 here_stays : (seat : Seat) (xs : List Change) (heard : List Heard) → here_of seat xs ≡ (all_noted seat xs heard).here
 unfolding takes
 here_stays seat xs heard = sym (fold-keeps (λ (q : Answers). q.here) takes (λ q m. refl) (notes_all (nothing seat) xs) heard ∙ here_is seat xs)
@@ -252,6 +275,7 @@ module _ {A : Type 0} {join : Option A → Option A → Option A} (g : Gathers j
     (rise : (h k : Here) → Rises h k → (z : Option A) → open_if (open_ k) z ≡ open_if (open_ k) (open_if (open_ h) z))
     (begun : (seat : Seat) → get (nothing seat) ≡ None)
     (apart : (q : Answers) (m : Heard) → get (takes q m) ≡ get q) where
+  -- a question of the records
   recorded : (seat : Seat) (xs : List Change) (heard : List Heard) → open_if (open_ (here_of seat xs)) (gathered join None pick xs) ≡ get (all_noted seat xs heard)
   recorded seat xs heard =
       sym
@@ -265,6 +289,7 @@ module _ {A : Type 0} {join : Option A → Option A → Option A} (g : Gathers j
     (step : (q : Answers) (x : Change) → get (notes q x) ≡ join (get q) (pick x))
     (begun : (seat : Seat) → get (nothing seat) ≡ None)
     (apart : (q : Answers) (m : Heard) → get (takes q m) ≡ get q) where
+  -- a question of the records that nothing cuts
   recorded_for_good : (seat : Seat) (xs : List Change) (heard : List Heard) → gathered join None pick xs ≡ get (all_noted seat xs heard)
   recorded_for_good seat xs heard =
       sym (fold-keeps get takes apart (notes_all (nothing seat) xs) heard ∙ fold-gathered g get notes pick step (nothing seat) (begun seat) xs)
@@ -274,10 +299,12 @@ module _ {A : Type 0} {join : A → A → A} {none : A} (g : Gathers join none) 
     (step : (q : Answers) (m : Heard) → get (takes q m) ≡ join (get q) (pick m))
     (begun : (seat : Seat) → get (nothing seat) ≡ none)
     (apart : (q : Answers) (x : Change) → get (notes q x) ≡ get q) where
+  -- a question of what was heard
   heard_is : (seat : Seat) (xs : List Change) (heard : List Heard) → gathered join none pick heard ≡ get (all_noted seat xs heard)
   heard_is seat xs heard =
       sym (fold-gathered g get takes pick step (notes_all (nothing seat) xs) (fold-keeps get notes apart (nothing seat) xs ∙ begun seat) heard)
 
+-- the run that the log has
 last_is : (seat : Seat) (xs : List Change) (heard : List Heard) → run_on seat.serve no_run (executed_in xs) ≡ (all_noted seat xs heard).log.run
 unfolding takes nothing
 last_is seat xs heard = sym (fold-keeps (λ (q : Answers). q.log.run) takes (λ q m. refl) (notes_all (nothing seat) xs) heard ∙ run_is (nothing seat) xs)

@@ -43,6 +43,7 @@ module _ {Wire : Type 0} (d : Deployment Wire) where
   unfoldable pub is_view_proof : ℕ → List SiteWord → Bool
   is_view_proof view words = are_sites (λ site. a_global_vc site view) words
 
+  -- A proof that the local view was asked for at a site.
   unfoldable pub is_local_proof : ℕ → ℕ → Quorum → Bool
   is_local_proof site local q = is_certificate site (a_local_vc site local) q
 
@@ -52,6 +53,7 @@ module _ {Wire : Type 0} (d : Deployment Wire) where
   abbrev pub faults : ℕ → ℕ
   faults site = d.f
 
+  -- the server has made the statement
   abbrev pub has_made_at : World Wire → ℕ → Statement → ℕ → Bool
   has_made_at world site s index = has_made world.made (server_at site index) s
 
@@ -59,6 +61,7 @@ module _ {Wire : Type 0} (d : Deployment Wire) where
   unfoldable pub correct_that : ℕ → (ℕ → Bool) → ℕ
   correct_that site test = count_below (λ i. is_correct d site i && test i) (servers_of d)
 
+  -- how many servers of a site are correct
   abbrev pub correct_count : ℕ → ℕ
   correct_count site = correct_that site (λ i. true)
 

@@ -22,6 +22,7 @@ use Rattle.st_protocol.specs.Forced.{item_at, higher_item}
 
 -- ---- a server's own report
 
+-- what stood at n, as an item
 abbrev pub item_of : ℕ → Backed → Item
 item_of n b = an_item n b.view b.local b.value
 
@@ -35,10 +36,12 @@ report_statement here slots false =
     a_local_report here.seat.site here.local here.seat.index here.view here.executed (in_window here slots.prepared item_of)
 report_statement here slots true = a_global_report here.seat.site here.view here.seat.index here.executed (in_window here slots.accepted item_of)
 
+-- the Quorum behind each item of the report
 abbrev pub report_quorums : Here → Slots → Bool → List Quorum
 report_quorums here slots false = in_window here slots.prepared (λ n b. b.quorum)
 report_quorums here slots true = in_window here slots.accepted (λ n b. b.quorum)
 
+-- The report of the view that the server is in, for its representative.
 abbrev pub make_report : Here → Slots → Option Proof → Bool → Out
 make_report here slots base global = Make (report_statement here slots global) (forms.Report (report_quorums here slots global) base) (to_rep here)
 
@@ -50,9 +53,11 @@ not_present here None = true
 not_present here (Some (OfLocal x)) = not (nat_eq x here.local)
 not_present here (Some (OfGlobal y)) = not (nat_eq y here.view)
 
+-- how many reports are kept
 abbrev pub reports_kept : Here → (ℕ → Option ReportBody) → ℕ
 reports_kept here kept = count_below (λ i. is_some (kept i)) (servers here)
 
+-- the reports once this one is kept too
 abbrev pub with_report : (ℕ → Option ReportBody) → ReportBody → ℕ → Option ReportBody
 with_report kept r i = cond (nat_eq (index_of r.statement) i) (Some r) (kept i)
 
@@ -71,28 +76,34 @@ add_report here kept r =
 
 -- ---- the union of reports: the highest item of each number above the greatest base, of the first report among equals
 
+-- the view in which a local report was made
 abbrev pub view_in : Statement → ℕ
 view_in (LocalReport site local index view base items) = view.0
 view_in _ = 0
 
+-- the number up to which the reporter had executed
 abbrev pub base_in : Statement → ℕ
 base_in (LocalReport site local index view base items) = base
 base_in (GlobalReport site view index base items) = base
 base_in _ = 0
 
+-- what the reporter had prepared or accepted
 abbrev pub items_in : Statement → List Item
 items_in (LocalReport site local index view base items) = items
 items_in (GlobalReport site view index base items) = items
 items_in _ = []
 
+-- the greatest of what reports say
 unfoldable pub most : (Statement → ℕ) → List ReportBody → ℕ
 most f [] = 0
 most f (r ∷ rs) = max (f r.statement) (most f rs)
 
+-- the highest item at n of these reports and of what was found before
 unfoldable pub best_item : ℕ → Option Item → List ReportBody → Option Item
 best_item n best [] = best
 best_item n best (r ∷ rs) = best_item n (higher_item best (item_at n (items_in r.statement))) rs
 
+-- the highest item of each number above the greatest base
 abbrev pub union_items : List ReportBody → List Item
 union_items rs = all_below (λ k. to_list (best_item (most base_in rs + 1 + k) None rs)) WINDOW
 
@@ -102,6 +113,7 @@ union_as (LocalReport site local index view base items) greatest least more = Lo
 union_as (GlobalReport site view index base items) greatest least more = GlobalUnion site view least more
 union_as s greatest least more = s
 
+-- The union of reports: it is of the first one's kind, site and view.
 unfoldable pub union : List ReportBody → Statement
 union [] = GlobalUnion (record { 0 = 0 }) (record { 0 = 0 }) 0 []
 union (r ∷ rs) = union_as r.statement (most view_in (r ∷ rs)) (most base_in (r ∷ rs)) (union_items (r ∷ rs))
@@ -120,6 +132,7 @@ check_bundle here made (r ∷ rs) =
 
 -- ---- unions
 
+-- to whom a union's certificate goes
 abbrev pub union_to : Here → Statement → Scope
 union_to here (GlobalUnion site view base items) = to_site_at (view.0 % here.seat.sites)
 union_to here _ = to_site here

@@ -73,19 +73,23 @@ sealing_of state (GlobalUnion site view base items) = state.making.union (OfGlob
 sealing_of state (Reply site client time number result) = state.making.reply number.0
 sealing_of state (ClientUpdate update) = None
 
+-- the server's own seal on a statement that it made
 abbrev pub signed_by : Pen → Answers → Statement → Signed
 signed_by pen state s = record { index = state.here.seat.index; seal = given (sealing_of state s) [] (λ m. pen m.leaf s) }
 
+-- an assignment over a Prepare
 abbrev pub assign_of : Bytes → Signed → Statement → Message
 assign_of client_seal signed (Prepare site view local number value) = messages.Assign view local number value client_seal signed
 assign_of client_seal signed s = messages.Share s signed
 
+-- the message in which a sealed statement goes out
 abbrev pub message_of : Form → Statement → Signed → Message
 message_of forms.Share s signed = messages.Share s signed
 message_of (forms.Assign client_seal) s signed = assign_of client_seal signed s
 message_of (forms.Report quorums base) s signed = messages.Report (record { statement = s; seal = signed.seal; quorums = quorums; base = base })
 message_of forms.Reply s signed = messages.Reply s signed
 
+-- what goes out, sealed, with the leaf of the server's own seal
 abbrev pub sealed : Pen → Answers → Out → Output
 sealed pen state (Make s form to) = record { message = message_of form s (signed_by pen state s); to = to; leaf = given (sealing_of state s) None (λ m. Some m.leaf) }
 sealed pen state (Send m to) = record { message = m; to = to; leaf = None }
@@ -99,15 +103,19 @@ pub record Course : Type 0 where
   pub heard : List Heard
   pub outputs : List Output
 
+-- Nothing is done yet.
 unfoldable pub begins : Answers → Course
 begins state = record { now = state; changes = []; heard = []; outputs = [] }
 
+-- A change is recorded.
 unfoldable pub records : Course → Change → Course
 records way x = record { now = after way.now x; changes = way.changes ++ x ∷ []; heard = way.heard; outputs = way.outputs }
 
+-- Something heard is kept.
 unfoldable pub keeps : Course → Heard → Course
 keeps way m = record { now = hears way.now m; changes = way.changes; heard = way.heard ++ m ∷ []; outputs = way.outputs }
 
+-- A message goes out.
 unfoldable pub puts : Course → Output → Course
 puts way o = record { now = way.now; changes = way.changes; heard = way.heard; outputs = way.outputs ++ o ∷ [] }
 
@@ -119,9 +127,11 @@ emits pen way o = puts way (sealed pen way.now o)
 unfoldable pub makes : Pen → Course → Statement → Form → Scope → Course
 makes pen way s form to = emits pen (records way (Made way.now.here.leaf s)) (Make s form to)
 
+-- the message of what goes out
 abbrev pub message_in : Pen → Answers → Out → Message
 message_in pen state o = (sealed pen state o).message
 
+-- the statement that goes out; a sent message has none of its own
 abbrev pub statement_in : Out → Statement
 statement_in (Make s form to) = s
 statement_in (Send m to) = a_global_vc 0 0
@@ -132,9 +142,11 @@ reports_as pen way o =
     let made : Course = records way (Made way.now.here.leaf (statement_in o)) in
     keeps (emits pen made o) (record { own = true; message = message_in pen made.now o })
 
+-- the order proof of the number up to which the server has executed, if any
 abbrev pub base_proof : Answers → Option Proof
 base_proof state = cond (nat_eq state.here.executed 0) None (state.log.proof state.here.executed)
 
+-- The report of the local view, or of the view, that the server is in.
 unfoldable pub reports : Pen → Bool → Course → Course
 reports pen global way = reports_as pen way (make_report way.now.here way.now.slots (base_proof way.now) global)
 
@@ -159,12 +171,15 @@ carries_change pen way (Accepted s q) = records way (Accepted s q)
 carries_change pen way (Union s q) = records way (Union s q)
 carries_change pen way (Executed n p) = replies pen way.now p.value (records way (Executed n p))
 
+-- changes in order, each with what follows from it
 abbrev pub carries_changes : Pen → Course → List Change → Course
 carries_changes pen way changes = fold (carries_change pen) way changes
 
+-- things heard, in order
 abbrev pub keeps_all : Course → List Heard → Course
 keeps_all way heard = fold keeps way heard
 
+-- what goes out, in order
 abbrev pub emits_all : Pen → Course → List Out → Course
 emits_all pen way outs = fold (emits pen) way outs
 
@@ -174,6 +189,7 @@ carries pen way step = emits_all pen (keeps_all (carries_changes pen way step.ch
 
 -- ---- which part is asked
 
+-- the part that takes a share
 abbrev pub of_share : Answers → Statement → Signed → Answer
 of_share state (Prepare site view local number value) signed = on_prepare state.here state.slots site.0 view.0 local.0 number.0 value signed
 of_share state (Proposal site view local number value) signed = on_proposal_share state.here state.slots site.0 view.0 local.0 number.0 value signed
@@ -186,6 +202,7 @@ of_share state (GlobalUnion site view base items) signed =
     on_union_share state.here (state.votes.unions (OfGlobal view.0)) (GlobalUnion site view base items) signed
 of_share state s signed = Refused NotMine
 
+-- the part that takes a certificate
 abbrev pub of_certificate : Answers → Statement → Quorum → Answer
 of_certificate state (Proposal site view local number value) q = on_proposal state.here state.slots site.0 view.0 local.0 number.0 value q
 of_certificate state (Accept site view number value) q = on_accept state.here state.hand site.0 view.0 number.0 value q
@@ -196,10 +213,12 @@ of_certificate state (GlobalUnion site view base items) q =
     on_union state.here (state.unions (OfGlobal view.0) site.0) (GlobalUnion site view base items) q
 of_certificate state s q = Refused NotMine
 
+-- the proof of a local view is a Quorum that asks for it
 abbrev pub of_local_words : Answers → Statement → Quorum → Answer
 of_local_words state (LocalVc site local) q = on_local_proof state.here site.0 local.0 q
 of_local_words state s q = Refused NotMine
 
+-- the part that takes the proof of a view
 abbrev pub of_view_proof : Answers → ViewWords → Answer
 of_view_proof state (view_words.Local s q) = of_local_words state s q
 of_view_proof state (view_words.Global view sites) = on_view_proof state.here view.0 sites
@@ -209,10 +228,12 @@ abbrev pub reports_at : Answers → Option Term → ℕ → Option ReportBody
 reports_at state None i = None
 reports_at state (Some t) i = state.reports t i
 
+-- the union that was made there
 abbrev pub union_made : Answers → Option Term → Option Sealing
 union_made state None = None
 union_made state (Some t) = state.making.union t
 
+-- the part that takes a bundle; one without reports is no one's
 abbrev pub of_bundle : Answers → List ReportBody → Answer
 of_bundle state [] = Refused NotMine
 of_bundle state (r ∷ rs) = check_bundle state.here (union_made state (report_of r.statement)) (r ∷ rs)
@@ -234,12 +255,14 @@ of_kind state (messages.Reply s signed) = Refused NotMine
 
 -- ---- what is built
 
+-- the shares that today's server takes
 abbrev pub is_built_share : Statement → Bool
 is_built_share (Prepare site view local number value) = true
 is_built_share (Proposal site view local number value) = true
 is_built_share (Accept site view number value) = true
 is_built_share _ = false
 
+-- the certificates that today's server takes
 abbrev pub is_built_certificate : Statement → Bool
 is_built_certificate (Proposal site view local number value) = true
 is_built_certificate (Accept site view number value) = true
@@ -260,37 +283,45 @@ of_message state m = cond (is_built_message m) (of_kind state m) (Refused NotBui
 
 -- ---- the tick
 
+-- a statement that was made goes out again as a share
 abbrev pub share_of : Option Sealing → Scope → List Out
 share_of made to = given made [] (λ m. Make m.statement forms.Share to ∷ [])
 
+-- the report of a view goes out again until its union was made here
 abbrev pub report_again : Answers → Term → List Out
 report_again state t =
     cond (is_some (state.making.union t)) [] (given (state.own.report t) [] (λ r. Send (messages.Report r) (to_rep state.here) ∷ []))
 
+-- the client's seal of the update that a Prepare gives a number, where that update is pending
 abbrev pub pending_seal : (ℕ → Option Pended) → Statement → Bytes
 pending_seal pending (Prepare site view local number (values.Update u)) = given (pending u.client.0) [] (λ k. cond (same_update k.update u) k.seal [])
 pending_seal pending s = []
 
+-- a Prepare goes out again: a representative's as an assignment, another server's as a share
 abbrev pub prepare_again : Answers → Sealing → Out
 prepare_again state m =
     cond (nat_eq state.here.seat.index (rep state.here))
     (Make m.statement (forms.Assign (pending_seal state.pending m.statement)) (to_site state.here))
     (Make m.statement forms.Share (to_site state.here))
 
+-- what was made for a number at the present views goes out again
 abbrev pub number_again : Answers → ℕ → List Out
 number_again state n =
     to_list (given (state.slots.made (AtPrepare state.here.view state.here.local n)) None (λ m. Some (prepare_again state m)))
     ++ share_of (state.slots.made (AtProposal state.here.view state.here.local n)) (to_rep state.here)
     ++ share_of (state.slots.made (AtAccept state.here.view n)) (to_rep state.here)
 
+-- to whom a completed certificate goes
 abbrev pub certificate_to : Here → Statement → Scope
 certificate_to here (LocalUnion site local greatest base items) = union_to here (LocalUnion site local greatest base items)
 certificate_to here (GlobalUnion site view base items) = union_to here (GlobalUnion site view base items)
 certificate_to here s = scopes.All
 
+-- a completed certificate goes out again
 abbrev pub certificate_again : Here → Option Completed → List Out
 certificate_again here x = given x [] (λ c. Send (messages.Certificate c.statement c.quorum) (certificate_to here c.statement) ∷ [])
 
+-- the certificates of a number at the present view go out again
 abbrev pub certificates_again : Answers → ℕ → List Out
 certificates_again state n =
     certificate_again state.here (state.own.proposal state.here.view n) ++ certificate_again state.here (state.own.accept state.here.view n)
@@ -299,6 +330,7 @@ certificates_again state n =
 abbrev pub ask_to : Here → ℕ → ℕ → List Out
 ask_to here site index = cond (nat_eq site here.seat.site && nat_eq index here.seat.index) [] (Send (ask here) (to_server_at site index) ∷ [])
 
+-- All that a tick sends again, and what it asks for.
 unfoldable pub tick_out : Answers → List Out
 tick_out state =
     share_of (state.making.vc (OfLocal (state.here.local + 1))) (to_site state.here)
@@ -317,6 +349,7 @@ tick_out state =
 
 -- ---- the duty
 
+-- what is wrong with a message, or what its part answers
 abbrev pub of_reading : Answers → Reading → Answer
 of_reading state (Faulty reason) = Refused reason
 of_reading state (Clean m) = of_message state m
@@ -336,16 +369,20 @@ fills_up pen way = carries pen way (fill way.now.here way.now.slots way.now.pend
 unfoldable pub course : Pen → Answers → Step → Course
 course pen state step = fills_up pen (carries pen (begins state) step)
 
+-- the plan of an event that did something
 abbrev pub did : Course → Plan
 did way = record { outcome = Did; changes = way.changes; heard = way.heard; outputs = way.outputs }
 
+-- the plan of an event that is ignored
 abbrev pub ignored : Reason → Plan
 ignored reason = record { outcome = Ignored reason; changes = []; heard = []; outputs = [] }
 
+-- an answer carried out
 abbrev pub plan_by : Pen → Answers → Answer → Plan
 plan_by pen state (Refused reason) = ignored reason
 plan_by pen state (Steps step) = did (course pen state step)
 
+-- The plan for an event, by what the state answers.
 unfoldable pub plan_of : {Wire : Type 0} → (Wire → Reading) → Pen → Answers → Event Wire → Plan
 plan_of read pen state event = plan_by pen state (of_event read state event)
 

@@ -25,9 +25,11 @@ abbrev pub is_ran_by : ℕ → ℕ → Bytes → Value → Ran → Bool
 is_ran_by client time result (values.Update u) (outcomes.Ran r) = nat_eq u.client.0 client && nat_eq u.time time && bytes_eq r result
 is_ran_by client time result _ _ = false
 
+-- the entry says that the client's update of this time ran with this result
 abbrev pub is_ran : ℕ → ℕ → Bytes → Entry → Bool
 is_ran client time result entry = is_ran_by client time result entry.value entry.ran
 
+-- a statement of the present views, of the next ones that are asked for, or a Reply to an update that ran
 abbrev pub may_be_made : Answers → Statement → Bool
 may_be_made state (Prepare site view local number value) = is_here state.here view.0 local.0 number.0
 may_be_made state (Proposal site view local number value) = is_here state.here view.0 local.0 number.0
@@ -42,6 +44,7 @@ may_be_made state (Reply site client time number result) =
     given (numbered state.log.run.entries number.0) false (is_ran client.0 time result)
 may_be_made state (ClientUpdate update) = false
 
+-- A change that a server in this state may have recorded next.
 abbrev pub fits : Answers → Change → Bool
 fits state (EnterLocal local q) = nat_lt state.here.local local.0 && nat_le local.0 MOST_VIEW
 fits state (EnterGlobal view sites) = nat_lt state.here.view view.0 && nat_le view.0 MOST_VIEW

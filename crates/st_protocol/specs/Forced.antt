@@ -14,13 +14,16 @@ pub record Forced : Type 0 where
   pub held : ℕ
   pub wanted : ℕ
 
+-- the first item of a number
 unfoldable pub item_at : ℕ → List Item → Option Item
 item_at n [] = None
 item_at n (i ∷ is) = cond (nat_eq i.number.0 n) (Some i) (item_at n is)
 
+-- the view in which an item's value stood
 abbrev pub item_view : Item → ℕ
 item_view i = i.view.0
 
+-- the local view in which an item's value stood
 abbrev pub item_local : Item → ℕ
 item_local i = i.local.0
 
@@ -28,12 +31,15 @@ item_local i = i.local.0
 abbrev pub higher_item : Option Item → Option Item → Option Item
 higher_item x y = higher item_view item_local x y
 
+-- the union of the present local view that is held
 abbrev pub local_held : Here → (Term → ℕ → Option Held) → Option Held
 local_held here unions = unions (OfLocal here.local) here.seat.site
 
+-- a site's union of the present view that is held
 abbrev pub site_held : Here → (Term → ℕ → Option Held) → ℕ → Option Held
 site_held here unions site = unions (OfGlobal here.view) site
 
+-- a local union is held whose greatest view isn't above the present one
 abbrev pub usable : Here → (Term → ℕ → Option Held) → Bool
 usable here unions = given (local_held here unions) false (λ u. nat_le u.greatest here.view)
 
@@ -46,10 +52,12 @@ unfoldable pub highest_item : (ℕ → Option Held) → ℕ → ℕ → Option I
 highest_item held n zero = None
 highest_item held n (suc k) = higher_item (highest_item held n k) (given (held k) None (λ u. item_at n u.items))
 
+-- the greatest base of the unions of the sites below k
 unfoldable pub greatest_base : (ℕ → Option Held) → ℕ → ℕ
 greatest_base held zero = 0
 greatest_base held (suc k) = max (greatest_base held k) (given (held k) 0 (λ u. u.base))
 
+-- what counts only above view 0
 abbrev pub above_zero : {A : Type 0} → ℕ → Option A → Option A
 above_zero zero x = None
 above_zero (suc k) x = x
@@ -59,10 +67,12 @@ abbrev pub local_item : Here → (Term → ℕ → Option Held) → ℕ → Opti
 local_item here unions n =
     given (above_zero here.local (local_held here unions)) None (λ u. given (item_at n u.items) None (λ i. cond (nat_eq i.view.0 here.view) (Some i) None))
 
+-- the value that unions force at n: the local union's where it is of this view, else the highest of the sites'
 abbrev pub forced_value : Here → (Term → ℕ → Option Held) → ℕ → Option Value
 forced_value here unions n =
     given (or_else (local_item here unions n) (above_zero here.view (highest_item (site_held here unions) n here.seat.sites))) None (λ i. Some i.value)
 
+-- the number up to which all is settled: executed here, or below a held union
 abbrev pub base_of : Here → (Term → ℕ → Option Held) → ℕ
 base_of here unions =
     max here.executed
@@ -77,6 +87,7 @@ lacks_sites here unions = nat_lt 0 here.view && nat_lt (sites_held here unions) 
 abbrev pub lacks_local : Here → (Term → ℕ → Option Held) → Bool
 lacks_local here unions = nat_lt 0 here.local && not (usable here unions)
 
+-- What the held unions say at the present views.
 unfoldable pub forced_of : Here → (Term → ℕ → Option Held) → Forced
 forced_of here unions =
     record {
@@ -86,6 +97,7 @@ forced_of here unions =
       wanted = cond (lacks_sites here unions) (majority here) (cond (lacks_local here unions) 1 0);
     }
 
+-- unions are missing
 abbrev pub waits : Forced → Bool
 waits forced = nat_lt forced.held forced.wanted
 

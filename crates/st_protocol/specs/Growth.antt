@@ -11,6 +11,7 @@ use Rattle.st_protocol.specs.Questions.{sealing_in, prepared_in, accepted_in, he
 
 -- ---- a change: where it leaves the server, the log, and why views were entered
 
+-- where a change leaves the server
 abbrev pub here_after : Change → Here → Here
 here_after (EnterLocal x q) here = record here { local = max here.local x.0 }
 here_after (EnterGlobal y ws) here = record here { view = max here.view y.0 }
@@ -26,6 +27,7 @@ log_after (Executed n p) here log =
     record { run = runs here.seat.serve log.run p.value; proof = λ m. cond (nat_eq (here.executed + 1) m) (Some p) (log.proof m) }
 log_after _ here log = log
 
+-- why a view was entered, where it is a higher one
 abbrev pub words_after : Change → Here → KeptViews → KeptViews
 words_after (EnterLocal x q) here kept = record { local = cond (nat_lt here.local x.0) (Some q) kept.local; view = kept.view }
 words_after (EnterGlobal y ws) here kept = record { local = kept.local; view = cond (nat_lt here.view y.0) (Some ws) kept.view }
@@ -33,6 +35,7 @@ words_after _ here kept = kept
 
 -- ---- each group: after a change is noted (`here` is that after it), after something is heard, and what of it is dropped
 
+-- slots: of a place the first statement made, of a number the highest item
 abbrev pub slots_notes : Here → Change → Slots → Slots
 slots_notes here x slots =
     record {
@@ -42,12 +45,15 @@ slots_notes here x slots =
       shares = slots.shares;
     }
 
+-- slots: of a place and a server the first share
 abbrev pub slots_takes : Heard → Slots → Slots
 slots_takes m slots = record slots { shares = λ p i. or_else (slots.shares p i) (if_other m (share_in (at_place p) i)) }
 
+-- slots: shares below the present state are dropped
 abbrev pub slots_cuts : Here → Slots → Slots
 slots_cuts here slots = record slots { shares = λ p i. open_if (open_place here p) (slots.shares p i) }
 
+-- the other statements: of a term the first, of a number the first Reply
 abbrev pub making_notes : Here → Change → Making → Making
 making_notes here x making =
     record {
@@ -57,15 +63,19 @@ making_notes here x making =
       reply = λ n. or_else (making.reply n) (sealing_in (at_reply n) x);
     }
 
+-- unions: of a term and a site the first
 abbrev pub unions_notes : Here → Change → (Term → ℕ → Option Held) → Term → ℕ → Option Held
 unions_notes here x unions t s = open_if (open_term here t) (or_else (unions t s) (held_in t s x))
 
+-- pending updates: of a client the one of the greatest time
 abbrev pub pending_takes : Heard → (ℕ → Option Pended) → ℕ → Option Pended
 pending_takes m pending c = greatest pended_time (pending c) (if_other m (update_in c))
 
+-- pending updates that aren't above their client's last time are dropped
 abbrev pub pending_cuts : (ℕ → ℕ) → (ℕ → Option Pended) → ℕ → Option Pended
 pending_cuts last pending c = from pended_time (last c + 1) (pending c)
 
+-- votes: of a server or site what asks for the greatest view
 abbrev pub votes_takes : Heard → Votes → Votes
 votes_takes m votes =
     record {
@@ -75,6 +85,7 @@ votes_takes m votes =
       asked = λ s. greatest asked_view (votes.asked s) (if_other m (asked_in s));
     }
 
+-- votes for views that aren't above the present ones are dropped
 abbrev pub votes_cuts : Here → Votes → Votes
 votes_cuts here votes =
     record {
@@ -84,12 +95,15 @@ votes_cuts here votes =
       asked = λ s. from asked_view (here.view + 1) (votes.asked s);
     }
 
+-- reports: of a term and a server the first
 abbrev pub reports_takes : Heard → (Term → ℕ → Option ReportBody) → Term → ℕ → Option ReportBody
 reports_takes m reports t i = or_else (reports t i) (if_other m (report_in t i))
 
+-- reports below the present views are dropped
 abbrev pub reports_cuts : Here → (Term → ℕ → Option ReportBody) → Term → ℕ → Option ReportBody
 reports_cuts here reports t i = open_if (open_term here t) (reports t i)
 
+-- the hand: of a number the highest view, per site the word of the greatest view, and the first order proof
 abbrev pub hand_takes : Heard → Hand → Hand
 hand_takes m hand =
     record {
@@ -98,6 +112,7 @@ hand_takes m hand =
       proof = λ n. or_else (hand.proof n) (if_other m (proof_in n));
     }
 
+-- the hand: executed numbers, and words below the highest view, are dropped
 abbrev pub hand_cuts : Here → Hand → Hand
 hand_cuts here hand =
     record {
@@ -106,6 +121,7 @@ hand_cuts here hand =
       proof = λ n. open_if (open_number here n) (hand.proof n);
     }
 
+-- what this server sent: the first report, the last of the certificates
 abbrev pub own_takes : Heard → Own → Own
 own_takes m own =
     record {
@@ -116,6 +132,7 @@ own_takes m own =
       accept = λ g n. or_last (own.accept g n) (if_own m (completed_in (is_accept_at g n)));
     }
 
+-- what this server sent below the present state is dropped
 abbrev pub own_cuts : Here → Own → Own
 own_cuts here own =
     record {
@@ -181,9 +198,11 @@ cuts state =
 
 -- ---- over lists
 
+-- before anything was recorded
 abbrev pub fresh_here : Seat → Here
 fresh_here seat = record { seat = seat; view = 0; local = 0; executed = 0; leaf = 0 }
 
+-- The answers of a server that recorded and heard nothing.
 unfoldable pub nothing : Seat → Answers
 nothing seat =
     record {
@@ -200,9 +219,11 @@ nothing seat =
       own = record { report = λ t. None; vc = None; union = λ t. None; proposal = λ g n. None; accept = λ g n. None };
     }
 
+-- changes are recorded, in order
 abbrev pub notes_all : Answers → List Change → Answers
 notes_all state changes = fold notes state changes
 
+-- things are heard, in order
 abbrev pub takes_all : Answers → List Heard → Answers
 takes_all state heard = fold takes state heard
 
@@ -214,11 +235,14 @@ grown seat records heard = cuts (takes_all (notes_all (nothing seat) (joined rec
 unfoldable pub after : Answers → Change → Answers
 after state x = cuts (notes state x)
 
+-- The answers after one thing heard more.
 unfoldable pub hears : Answers → Heard → Answers
 hears state m = cuts (takes state m)
 
+-- the answers after changes, in order
 abbrev pub after_all : Answers → List Change → Answers
 after_all state changes = fold after state changes
 
+-- the answers after things heard, in order
 abbrev pub hears_all : Answers → List Heard → Answers
 hears_all state heard = fold hears state heard

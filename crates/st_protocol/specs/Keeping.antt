@@ -59,15 +59,19 @@ gathered join none pick (x ∷ xs) = join (pick x) (gathered join none pick xs)
 abbrev pub first_of : {X A : Type 0} → (X → Option A) → List X → Option A
 first_of pick xs = gathered or_else None pick xs
 
+-- the last that is picked
 abbrev pub last_of : {X A : Type 0} → (X → Option A) → List X → Option A
 last_of pick xs = gathered or_last None pick xs
 
+-- the greatest that is picked, of equals the first
 abbrev pub greatest_of : {X A : Type 0} → (A → ℕ) → (X → Option A) → List X → Option A
 greatest_of key pick xs = gathered (greatest key) None pick xs
 
+-- the greatest that is picked, of equals the last
 abbrev pub last_greatest_of : {X A : Type 0} → (A → ℕ) → (X → Option A) → List X → Option A
 last_greatest_of key pick xs = gathered (greatest_last key) None pick xs
 
+-- the highest that is picked, of equals the first
 abbrev pub highest_of : {X A : Type 0} → (A → ℕ) → (A → ℕ) → (X → Option A) → List X → Option A
 highest_of view local pick xs = gathered (higher view local) None pick xs
 
@@ -75,6 +79,7 @@ highest_of view local pick xs = gathered (higher view local) None pick xs
 abbrev pub most_of : {X : Type 0} → (X → ℕ) → List X → ℕ
 most_of pick xs = gathered max 0 pick xs
 
+-- how many pass a test
 abbrev pub count_of : {X : Type 0} → (X → Bool) → List X → ℕ
 count_of test xs = gathered ◌+◌ 0 (λ x. cond (test x) 1 0) xs
 

@@ -20,6 +20,7 @@ use Rattle.st_protocol.specs.Words.{Bytes, Quorum, server_at, a_prepare, a_propo
 use Rattle.st_protocol.specs.Keeping.{given}
 use Rattle.st_protocol.specs.Assigning.{is_empty}
 
+-- each passes the test
 unfoldable pub all_of : {A : Type 0} → (A → Bool) → List A → Bool
 all_of test [] = true
 all_of test (x ∷ xs) = test x && all_of test xs
@@ -27,15 +28,19 @@ all_of test (x ∷ xs) = test x && all_of test xs
 -- ---- known: of these sites, of 3f+1 servers each, and of these clients
 
 module _ (sites f clients : ℕ) where
+  -- a site of the deployment
   abbrev pub knows_site : ℕ → Bool
   knows_site site = nat_lt site sites
 
+  -- the index of a server of a site
   abbrev pub knows_index : ℕ → Bool
   knows_index index = nat_lt index (3 * f + 1)
 
+  -- a client of the deployment
   abbrev pub knows_client : ℕ → Bool
   knows_client client = nat_lt client clients
 
+  -- a value whose client is of the deployment
   abbrev pub knows_value : Value → Bool
   knows_value values.Noop = true
   knows_value (values.Update u) = knows_client u.client.0
@@ -44,9 +49,11 @@ module _ (sites f clients : ℕ) where
   abbrev pub knows_own_item : ℕ → Item → Bool
   knows_own_item site i = knows_value i.value && nat_eq (i.view.0 % sites) site
 
+  -- an item whose value is known
   abbrev pub knows_item : Item → Bool
   knows_item i = knows_value i.value
 
+  -- All that a statement names is of the deployment, and a Prepare's or Proposal's site leads its view.
   unfoldable pub knows_statement : Statement → Bool
   knows_statement (Prepare site view local number value) = knows_site site.0 && nat_eq (view.0 % sites) site.0 && knows_value value
   knows_statement (Proposal site view local number value) = knows_site site.0 && nat_eq (view.0 % sites) site.0 && knows_value value
@@ -60,24 +67,31 @@ module _ (sites f clients : ℕ) where
   knows_statement (Reply site client time number result) = knows_site site.0 && knows_client client.0
   knows_statement (ClientUpdate update) = knows_client update.client.0
 
+  -- a seal of a server of a site
   abbrev pub knows_signed : Signed → Bool
   knows_signed signed = knows_index signed.index
 
+  -- A Quorum of exactly 2f+1 seals.
   unfoldable pub knows_quorum : Quorum → Bool
   knows_quorum q = nat_eq (length q) (2 * f + 1) && all_of knows_signed q
 
+  -- a site's word whose site and Quorum are known
   abbrev pub knows_site_word : SiteWord → Bool
   knows_site_word word = knows_site word.site.0 && knows_quorum word.quorum
 
+  -- Words of exactly a majority of sites.
   unfoldable pub knows_sites : List SiteWord → Bool
   knows_sites words = nat_eq (length words) (sites / 2 + 1) && all_of knows_site_word words
 
+  -- An order proof whose value and sites are known.
   unfoldable pub knows_proof : Proof → Bool
   knows_proof p = knows_value p.value && knows_sites p.sites
 
+  -- A report of which all parts are known.
   unfoldable pub knows_report : ReportBody → Bool
   knows_report r = knows_statement r.statement && all_of knows_quorum r.quorums && given r.base true knows_proof
 
+  -- the proof of a view of which all parts are known
   abbrev pub knows_words : ViewWords → Bool
   knows_words (view_words.Local s q) = knows_statement s && knows_quorum q
   knows_words (view_words.Global view words) = knows_sites words
@@ -103,6 +117,7 @@ pub record Sealed : Type 0 where
   pub statement : Statement
   pub seal : Bytes
 
+-- the seals of a Quorum, each over the statement
 unfoldable pub in_quorum : ℕ → Statement → Quorum → List Sealed
 in_quorum site s [] = []
 in_quorum site s (x ∷ xs) = record { who = server_at site x.index; statement = s; seal = x.seal } ∷ in_quorum site s xs
@@ -112,6 +127,7 @@ unfoldable pub in_sites : (ℕ → Statement) → List SiteWord → List Sealed
 in_sites of_site [] = []
 in_sites of_site (x ∷ xs) = in_quorum x.site.0 (of_site x.site.0) x.quorum ++ in_sites of_site xs
 
+-- the seals of an order proof of the number
 abbrev pub in_proof : ℕ → Proof → List Sealed
 in_proof number p = in_sites (λ site. an_accept site p.view.0 number p.value) p.sites
 
@@ -120,9 +136,11 @@ unfoldable pub in_items : (Item → Statement) → List Item → List Quorum →
 in_items of_item (i ∷ is) (q ∷ qs) = in_quorum (site_of (of_item i)) (of_item i) q ++ in_items of_item is qs
 in_items of_item _ _ = []
 
+-- the seals of a report's order proof, if it has one
 abbrev pub in_base : ℕ → ReportBody → List Sealed
 in_base base r = given r.base [] (in_proof base)
 
+-- the client's seal in an assignment, if there is one
 abbrev pub in_client_seal : Value → Bytes → List Sealed
 in_client_seal values.Noop seal = []
 in_client_seal (values.Update u) seal = cond (is_empty seal) [] (record { who = parties.Client u.client; statement = ClientUpdate u; seal = seal } ∷ [])
@@ -138,9 +156,11 @@ module _ (sites : ℕ) where
       ∷ in_items (λ (i : Item). a_proposal (i.view.0 % sites) i.view.0 i.local.0 i.number.0 i.value) items r.quorums ++ in_base base r
   in_report_as r _ = []
 
+  -- the seals of a report
   abbrev pub in_report : ReportBody → List Sealed
   in_report r = in_report_as r r.statement
 
+  -- the seals of reports
   unfoldable pub in_reports : List ReportBody → List Sealed
   in_reports [] = []
   in_reports (r ∷ rs) = in_report r ++ in_reports rs

@@ -10,5 +10,6 @@ pub record IsPlain (node : Node) : Type 0 where
   pub not_apart : node.apart ≡ None
   pub empty_journal : node.bytes ≡ EMPTY_JOURNAL
 
+-- All servers are so.
 unfoldable pub ArePlain : {Wire : Type 0} → World Wire → Type 0
 ArePlain world = (site index : ℕ) → IsPlain (world.nodes site index)

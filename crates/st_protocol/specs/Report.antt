@@ -29,10 +29,12 @@ use Rattle.st_protocol.specs.Schedule.{step, goes_on}
 
 -- ---- what an event line came to
 
+-- an outcome as the report says it
 abbrev pub outcome_words : Outcome → DoneWords
 outcome_words outcomes.Did = words.Did
 outcome_words (outcomes.Ignored reason) = words.Ignored reason
 
+-- What a line came to, as the report says it.
 unfoldable pub done_words : Done → DoneWords
 done_words (done.Sent message) = words.Sent message
 done_words (done.SealsSpent used) = words.SealsSpent used
@@ -52,14 +54,17 @@ done_row row = record { line = row.0; words = done_words row.1 }
 
 -- ---- where a server and a client stand
 
+-- how a server stands, as the report says it
 abbrev pub state_of : Stand → StateWord
 state_of Running = states.Running
 state_of Stopped = states.Stopped
 state_of Full = states.Full
 
+-- one executed number
 abbrev pub log_row : Entry → LogRow
 log_row entry = record { value = entry.value; ran = entry.ran }
 
+-- A server: how it stands, where its records leave it, and its log.
 unfoldable pub server_row : Stand → Answers → ServerRow
 server_row stand state =
     record {
@@ -72,13 +77,16 @@ server_row stand state =
       log = flat_map (λ entry. log_row entry ∷ []) state.log.run.entries;
     }
 
+-- a client's result as the report says it
 abbrev pub result_of : Option Answered → Option (Number × Bytes)
 result_of answered = given answered None (λ a. Some (record { 0 = a.number }, a.result))
 
+-- A client: its last time, and the result of its last update.
 unfoldable pub client_row : ℕ → Customer → ClientRow
 client_row client customer = record { client = record { 0 = client }; time = customer.time; result = result_of customer.result }
 
 module _ {Wire : Type 0} (d : Deployment Wire) where
+  -- the numbers of the report's first line
   abbrev pub header : Header
   header = record { id = d.id; sites = d.sites; f = d.f; clients = d.clients }
 
@@ -91,9 +99,11 @@ module _ {Wire : Type 0} (d : Deployment Wire) where
   server_rows_at world site index =
       cond (is_correct d site index) (server_row (world.nodes site index).stand (answers_at world site index) ∷ []) []
 
+  -- The correct servers, by site and index.
   unfoldable pub server_rows : World Wire → List ServerRow
   server_rows world = all_below (λ site. all_below (server_rows_at world site) (servers_of d)) d.sites
 
+  -- The clients, in order.
   unfoldable pub client_rows : World Wire → List ClientRow
   client_rows world = all_below (λ client. client_row client (world.customers client) ∷ []) d.clients
 

@@ -32,13 +32,16 @@ is_built_line _ = false
 
 -- ---- the undelivered pairs
 
+-- this message to this destination
 abbrev pub is_pair : ℕ → Dest → Pair → Bool
 is_pair m to pair = nat_eq pair.message m && same_dest pair.to to
 
+-- the pairs that don't pass the test
 unfoldable pub without : (Pair → Bool) → List Pair → List Pair
 without test [] = []
 without test (p ∷ ps) = cond (test p) (without test ps) (p ∷ without test ps)
 
+-- a pair passes the test
 unfoldable pub has_pair : (Pair → Bool) → List Pair → Bool
 has_pair test [] = false
 has_pair test (p ∷ ps) = test p || has_pair test ps
@@ -52,10 +55,12 @@ pub record Flowing (Wire : Type 0) : Type 0 where
   pub did : ℕ
   pub ignored : ℕ
 
+-- 1 where the event did something
 abbrev pub did_by : Done → ℕ
 did_by (done.Outcome Did) = 1
 did_by _ = 0
 
+-- 1 where the event was ignored
 abbrev pub ignored_by : Done → ℕ
 ignored_by (done.Outcome (Ignored reason)) = 1
 ignored_by _ = 0
@@ -73,18 +78,22 @@ sealed_message s signed = messages.Share s signed
 
 -- ---- a restart
 
+-- this device call from now on fails
 abbrev pub set_to_stop : Node → ℕ → Node
 set_to_stop node call = record node { stop = call }
 
+-- the timeout of a local view, or of a view
 abbrev pub timeout_event : {Wire : Type 0} → Bool → Event Wire
 timeout_event false = LocalTimeout
 timeout_event true = GlobalTimeout
 
 module _ {Wire : Type 0} (d : Deployment Wire) where
+  -- The pairs that pass the test are lost.
   unfoldable pub drops : World Wire → (Pair → Bool) → Stepped Wire
   drops world test =
       stepped (with_waiting world (without test world.waiting)) (done.Dropped (length world.waiting - length (without test world.waiting)))
 
+  -- one delivery more
   abbrev pub counts : Flowing Wire → Stepped Wire → Flowing Wire
   counts x st = record { world = st.world; pairs = x.pairs + 1; did = x.did + did_by st.done; ignored = x.ignored + ignored_by st.done }
 
@@ -94,10 +103,12 @@ module _ {Wire : Type 0} (d : Deployment Wire) where
   flows_first x (p ∷ ps) =
       given (slice_get x.world.sent p.message) x (λ wire. counts x (delivers d (with_waiting x.world ps) p.to wire))
 
+  -- So many times the oldest pair is delivered.
   unfoldable pub flows : ℕ → Flowing Wire → Flowing Wire
   flows zero x = x
   flows (suc k) x = flows k (flows_first x x.world.waiting)
 
+  -- what a flow came to
   abbrev pub flowed : Flowing Wire → Stepped Wire
   flowed x = stepped x.world (done.Flowed x.pairs x.did x.ignored)
 
@@ -128,11 +139,13 @@ module _ {Wire : Type 0} (d : Deployment Wire) where
   client_seal_of world (values.Update u) =
       cond (has_made world.made (parties.Client u.client) (ClientUpdate u)) (d.formats.seal (parties.Client u.client) (u.time - 1) (ClientUpdate u)) []
 
+  -- A sealed Prepare goes out as an assignment too.
   unfoldable pub then_assigns : World Wire → Statement → Signed → World Wire
   then_assigns world (Prepare site view local number value) signed =
       sends_to d world (d.formats.encode (messages.Assign view local number value (client_seal_of world value) signed)) []
   then_assigns world s signed = world
 
+  -- A faulty server seals a statement with its next leaf; the message goes nowhere by itself.
   unfoldable pub seals : World Wire → ℕ → ℕ → Statement → Stepped Wire
   seals world site index s =
       let signed : Signed = record { index = index; seal = d.formats.seal (server_at site index) (world.leaves site index) s } in
@@ -142,6 +155,7 @@ module _ {Wire : Type 0} (d : Deployment Wire) where
 
   -- ---- forged bytes
 
+  -- a correct server, or a client
   abbrev pub is_correct_who : Who → Bool
   is_correct_who (parties.Server server) = is_correct d server.site server.index
   is_correct_who (parties.Client client) = nat_lt client.0 d.clients
@@ -150,12 +164,14 @@ module _ {Wire : Type 0} (d : Deployment Wire) where
   abbrev pub is_honest : World Wire → SealIn → Bool
   is_honest world x = not (is_correct_who x.who && checks_in d x && not (has_made world.made x.who x.statement))
 
+  -- a message that holds a forged seal ends the world
   abbrev pub forged_by : World Wire → Reading → Option Fault
   forged_by world (Faulty reason) = None
   forged_by world (Clean m) = given (first_bad (is_honest world) (d.formats.seals_in m)) None (λ place. Some (Forged place))
 
   -- ---- references
 
+  -- a destination that there is
   abbrev pub is_dest : Dest → Bool
   is_dest (dests.Server server) = is_server d server.site server.index
   is_dest (dests.Client client) = nat_lt client.0 d.clients
@@ -167,6 +183,7 @@ module _ {Wire : Type 0} (d : Deployment Wire) where
   is_sealable site index (GlobalReport s view i base items) = nat_eq s.0 site && nat_eq i index
   is_sealable site index s = nat_eq (site_of s) site
 
+  -- what the line names is there, and may do what the line says
   abbrev pub is_reference : World Wire → Line → Bool
   is_reference world (lines.Client client op) = nat_lt client.0 d.clients
   is_reference world (lines.Deliver m to) = nat_lt m (length world.sent) && is_dest to
@@ -187,6 +204,7 @@ module _ {Wire : Type 0} (d : Deployment Wire) where
 
   -- ---- the lines, one by one
 
+  -- what a line does, where all that it names is there
   abbrev pub goes : World Wire → Line → Stepped Wire
   goes world (lines.Client client op) = submits world client.0 op
   goes world (lines.Deliver m to) =
@@ -211,9 +229,11 @@ module _ {Wire : Type 0} (d : Deployment Wire) where
   unfoldable pub step : World Wire → Line → Stepped Wire
   step world line = cond (is_reference world line) (goes world line) (stepped (ends world (Some BadReference)) (done.Dropped 0))
 
+  -- the world after a line
   abbrev pub goes_on : World Wire → Line → World Wire
   goes_on world line = (step world line).world
 
+  -- the world after lines
   abbrev pub steps : World Wire → List Line → World Wire
   steps world all = fold goes_on world all
 

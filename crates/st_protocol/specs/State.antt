@@ -1,16 +1,12 @@
 -- What the duties ask of a server's state: the answers, grouped as the parts of a server take them.
 use Rattle.std.specs.Prelude.{ℕ, ◌+◌, Bool, false, nat_eq, nat_lt, nat_le, ◌&&◌, Option, Some, None, List}
-use Rattle.st_words.specs.declared.value.Update.{Update}
-use Rattle.st_words.specs.declared.value.Value.{Value}
-use Rattle.st_words.specs.declared.statement.Item.{Item}
 use Rattle.st_words.specs.declared.statement.Statement.{Statement}
 use Rattle.st_words.specs.declared.statement.Statement.TheVariants.{Prepare, Proposal, Accept, LocalVc, GlobalVc, LocalReport, GlobalReport, LocalUnion, GlobalUnion, Reply}
 use Rattle.st_message.specs.declared.log.Entry.{Entry}
-use Rattle.st_message.specs.declared.message.SiteWord.{SiteWord}
 use Rattle.st_message.specs.declared.message.Proof.{Proof}
 use Rattle.st_message.specs.declared.message.ReportBody.{ReportBody}
 use Rattle.st_message.specs.declared.kept as kept
-use Rattle.st_protocol.specs.Words.{Bytes, Quorum, local_of}
+use Rattle.st_protocol.specs.Words.{Bytes, local_of}
 use Rattle.st_protocol.specs.Keeping.{given}
 
 -- ---- where a statement stands
@@ -26,50 +22,61 @@ pub data Term : Type 0 where
   OfLocal : (local : ℕ) → Term
   OfGlobal : (view : ℕ) → Term
 
+-- the same slot
 abbrev pub same_place : Place → Place → Bool
 same_place (AtPrepare g l n) (AtPrepare g2 l2 n2) = nat_eq g g2 && nat_eq l l2 && nat_eq n n2
 same_place (AtProposal g l n) (AtProposal g2 l2 n2) = nat_eq g g2 && nat_eq l l2 && nat_eq n n2
 same_place (AtAccept g n) (AtAccept g2 n2) = nat_eq g g2 && nat_eq n n2
 same_place _ _ = false
 
+-- the same view of the same kind
 abbrev pub same_term : Term → Term → Bool
 same_term (OfLocal x) (OfLocal x2) = nat_eq x x2
 same_term (OfGlobal y) (OfGlobal y2) = nat_eq y y2
 same_term _ _ = false
 
+-- the slot of a statement with a number
 abbrev pub place_of : Statement → Option Place
 place_of (Prepare site view local number value) = Some (AtPrepare view.0 local.0 number.0)
 place_of (Proposal site view local number value) = Some (AtProposal view.0 local.0 number.0)
 place_of (Accept site view number value) = Some (AtAccept view.0 number.0)
 place_of _ = None
 
+-- the view that a statement asks for
 abbrev pub vc_of : Statement → Option Term
 vc_of (LocalVc site local) = Some (OfLocal local.0)
 vc_of (GlobalVc site view) = Some (OfGlobal view.0)
 vc_of _ = None
 
+-- the view that a report is of
 abbrev pub report_of : Statement → Option Term
 report_of (LocalReport site local index view base items) = Some (OfLocal local.0)
 report_of (GlobalReport site view index base items) = Some (OfGlobal view.0)
 report_of _ = None
 
+-- the view that a union is of
 abbrev pub union_of : Statement → Option Term
 union_of (LocalUnion site local greatest base items) = Some (OfLocal local.0)
 union_of (GlobalUnion site view base items) = Some (OfGlobal view.0)
 union_of _ = None
 
+-- a statement of this slot
 abbrev pub at_place : Place → Statement → Bool
 at_place p s = given (place_of s) false (same_place p)
 
+-- a statement that asks for this view
 abbrev pub at_vc : Term → Statement → Bool
 at_vc t s = given (vc_of s) false (same_term t)
 
+-- a report of this view
 abbrev pub at_report : Term → Statement → Bool
 at_report t s = given (report_of s) false (same_term t)
 
+-- a union of this view
 abbrev pub at_union : Term → Statement → Bool
 at_union t s = given (union_of s) false (same_term t)
 
+-- a Reply of this number
 abbrev pub at_reply : ℕ → Statement → Bool
 at_reply number (Reply s c t n r) = nat_eq number n.0
 at_reply number _ = false
@@ -133,6 +140,7 @@ pub record Run : Type 0 where
   -- the operations that ran, in order: what the service is
   pub ran : List Bytes
 
+-- The executed log.
 pub record Log : Type 0 where
   pub run : Run
   -- per executed number
@@ -150,6 +158,7 @@ Vote = kept.Vote.Vote
 abbrev pub Asked : Type 0
 Asked = kept.Asked.Asked
 
+-- What asks for views, and the shares of unions.
 pub record Votes : Type 0 where
   -- per server of the site: the greatest local view, the greatest view
   pub local : ℕ → Option Vote
@@ -167,6 +176,7 @@ Held = kept.Held.Held
 abbrev pub Word : Type 0
 Word = kept.Word.Word
 
+-- What orders numbers.
 pub record Hand : Type 0 where
   -- per number: the highest view of an Accept certificate, and 1; 0 where there is none
   pub highest : ℕ → ℕ
@@ -191,6 +201,7 @@ pub record Own : Type 0 where
   pub proposal : ℕ → ℕ → Option Completed
   pub accept : ℕ → ℕ → Option Completed
 
+-- All that the duties ask of a state.
 pub record Answers : Type 0 where
   pub here : Here
   pub slots : Slots
@@ -209,21 +220,27 @@ pub record Answers : Type 0 where
 
 -- ---- by what one of two is kept
 
+-- the view in which a value stood
 abbrev pub backed_view : Backed → ℕ
 backed_view b = b.view
 
+-- the local view in which a value stood
 abbrev pub backed_local : Backed → ℕ
 backed_local b = b.local
 
+-- the time of a pending update
 abbrev pub pended_time : Pended → ℕ
 pended_time k = k.update.time
 
+-- the view that a vote asks for
 abbrev pub vote_view : Vote → ℕ
 vote_view v = v.view
 
+-- the view that a site asks for
 abbrev pub asked_view : Asked → ℕ
 asked_view a = a.view
 
+-- the view of an Accept certificate
 abbrev pub word_view : Word → ℕ
 word_view w = w.view
 
@@ -231,33 +248,41 @@ word_view w = w.view
 abbrev pub word_height : Word → ℕ
 word_height w = w.view + 1
 
+-- the view that a statement asks for, else 0
 abbrev pub asking_view : Statement → ℕ
 asking_view (GlobalVc site view) = view.0
 asking_view _ = 0
 
+-- the view that a completed certificate asks for
 abbrev pub completed_view : Completed → ℕ
 completed_view c = asking_view c.statement
 
+-- the local view of a completed certificate
 abbrev pub completed_local : Completed → ℕ
 completed_local c = local_of c.statement
 
 -- ---- what isn't below a state: the tests behind "dropped"
 
+-- a slot that isn't below the present views, with a number that isn't executed
 abbrev pub open_place : Here → Place → Bool
 open_place here (AtPrepare g l n) = nat_le here.view g && nat_le here.local l && nat_lt here.executed n
 open_place here (AtProposal g l n) = nat_le here.view g && nat_le here.local l && nat_lt here.executed n
 open_place here (AtAccept g n) = nat_le here.view g && nat_lt here.executed n
 
+-- a view that isn't below the present one
 abbrev pub open_term : Here → Term → Bool
 open_term here (OfLocal x) = nat_le here.local x
 open_term here (OfGlobal y) = nat_le here.view y
 
+-- a view above the present one
 abbrev pub open_vc : Here → Term → Bool
 open_vc here (OfLocal x) = nat_lt here.local x
 open_vc here (OfGlobal y) = nat_lt here.view y
 
+-- a number that isn't executed
 abbrev pub open_number : Here → ℕ → Bool
 open_number here n = nat_lt here.executed n
 
+-- a view that isn't below the present one, with a number that isn't executed
 abbrev pub open_at : Here → ℕ → ℕ → Bool
 open_at here g n = nat_le here.view g && nat_lt here.executed n

@@ -36,6 +36,7 @@ votes_for s view votes i = given (votes i) None (λ v. cond (nat_eq v.view view)
 abbrev pub has_voted : ℕ → Option Vote → Bool
 has_voted view vote = given vote false (λ v. nat_le view v.view)
 
+-- A share that asks for a local view: it is kept, and with a quorum for it the local view is entered.
 abbrev pub on_local_share : Here → Votes → ℕ → ℕ → Signed → Answer
 on_local_share here votes site local signed =
     let statement : Statement = a_local_vc site local in
@@ -51,6 +52,7 @@ on_local_share here votes site local signed =
     (then (keeping (messages.Share statement signed))
     (when done (recording (EnterLocal (record { 0 = local }) (completed here shares statement signed)))))
 
+-- A Quorum that asks for a higher local view: it is entered.
 abbrev pub on_local_proof : Here → ℕ → ℕ → Quorum → Answer
 on_local_proof here site local q =
     decides (not_site here site ∷ other_view here (nat_le local here.local) ∷ bound local ∷ spent here 1 ∷ [])
@@ -58,6 +60,7 @@ on_local_proof here site local q =
 
 -- ---- views
 
+-- A share that asks for a view, at the representative: with a quorum for it the site asks for the view.
 abbrev pub on_global_share : Here → Votes → ℕ → ℕ → Signed → Answer
 on_global_share here votes site view signed =
     let statement : Statement = a_global_vc site view in
@@ -75,12 +78,15 @@ on_global_share here votes site view signed =
 abbrev pub with_asked : (ℕ → Option Asked) → ℕ → ℕ → Quorum → ℕ → Option Asked
 with_asked asked site view q s = cond (nat_eq site s) (Some (record { view = view; quorum = q })) (asked s)
 
+-- a site that asks for this view
 abbrev pub asks_for : ℕ → Option Asked → Bool
 asks_for view x = given x false (λ a. nat_eq a.view view)
 
+-- a site's word, if it asks for this view
 abbrev pub word_for : ℕ → (ℕ → Option Asked) → ℕ → List SiteWord
 word_for view asked s = given (asked s) [] (λ a. cond (nat_eq a.view view) (a_site_word s a.quorum ∷ []) [])
 
+-- A site's certificate that asks for a view: it is kept, and with a majority of sites the view is entered.
 abbrev pub on_global_vc : Here → Votes → ℕ → ℕ → Quorum → Answer
 on_global_vc here votes site view q =
     let asked : (ℕ → Option Asked) = with_asked votes.asked site view q in
@@ -94,6 +100,7 @@ on_global_vc here votes site view q =
     (then (keeping (messages.Certificate (a_global_vc site view) q))
     (when done (recording (EnterGlobal (record { 0 = view }) (all_below (word_for view asked) here.seat.sites)))))
 
+-- Words of a majority of sites that ask for a higher view: it is entered.
 abbrev pub on_view_proof : Here → ℕ → List SiteWord → Answer
 on_view_proof here view sites =
     decides (other_view here (nat_le view here.view) ∷ bound view ∷ spent here 1 ∷ [])

@@ -17,7 +17,6 @@ use Rattle.st_message.specs.declared.event.Outcome.TheVariants.{Did, Ignored}
 use Rattle.st_message.specs.declared.event.Output.{Output}
 use Rattle.st_message.specs.declared.event.Plan.{Plan}
 use Rattle.st_message.specs.declared.change.Change.{Change}
-use Rattle.st_message.specs.declared.change.Change.TheVariants.{Made}
 use Rattle.st_message.specs.declared.change.Heard.{Heard}
 use Rattle.st_message.specs.declared.made.MadeSeal.{MadeSeal}
 use Rattle.st_message.specs.declared.reason.Reason.TheVariants.{Unknown, BadSeal, NotMine, Seen, OldTime}
@@ -59,7 +58,8 @@ pub record Formats (Wire : Type 0) : Type 0 where
   -- the bytes that a body adds to its journal's file
   pub body_size : List Change → ℕ
 
--- Messages are passed as they are: nothing can be wrong with one, nothing is counted, and no body is written.
+-- Messages are passed as they are: nothing can be wrong with one, no bytes are counted, and no body is written. A raw
+-- line isn't built, so that what it would deliver is never asked.
 abbrev pub passed : (Who → ℕ → Statement → Bytes) → Formats Message
 passed seal =
     record {
@@ -74,6 +74,7 @@ passed seal =
       body_size = λ changes. 0;
     }
 
+-- A deployment: its numbers, its service, which of its servers are faulty, and its formats.
 pub record Deployment (Wire : Type 0) : Type 0 where
   pub id : ℕ
   pub sites : ℕ
@@ -120,6 +121,7 @@ pub data Fault : Type 0 where
 
 -- ---- the world
 
+-- Whether a server goes on.
 pub data Stand : Type 0 where
   Running : Stand
   Stopped : Stand
@@ -142,6 +144,7 @@ pub record Pair : Type 0 where
   pub message : ℕ
   pub to : Dest
 
+-- What a server answered a client: the number, and the result.
 pub record Answered : Type 0 where
   pub number : ℕ
   pub result : Bytes
@@ -156,6 +159,7 @@ pub record Customer : Type 0 where
   -- of the last update
   pub result : Option Answered
 
+-- All servers and clients, what was sent, and what wasn't delivered yet.
 pub record World (Wire : Type 0) : Type 0 where
   -- per site and index
   pub nodes : ℕ → ℕ → Node
@@ -168,12 +172,15 @@ pub record World (Wire : Type 0) : Type 0 where
   pub leaves : ℕ → ℕ → ℕ
   pub ended : Option Fault
 
+-- A server at first: its journal is empty.
 unfoldable pub fresh_node : Node
 fresh_node = record { bodies = []; heard = []; stand = Running; stop = 0; apart = None; bytes = EMPTY_JOURNAL }
 
+-- A client at first: it asked for nothing.
 unfoldable pub fresh_customer : Customer
 fresh_customer = record { time = 0; waits = false; replies = λ s i. None; result = None }
 
+-- The world before the first line.
 unfoldable pub empty : {Wire : Type 0} → World Wire
 empty =
     record {
@@ -188,19 +195,23 @@ empty =
 
 -- ---- words without a deployment
 
+-- the same destination
 abbrev pub same_dest : Dest → Dest → Bool
 same_dest (dests.Server a) (dests.Server b) = same_server a b
 same_dest (dests.Client a) (dests.Client b) = nat_eq a.0 b.0
 same_dest _ _ = false
 
+-- no element
 abbrev pub is_nil : {A : Type 0} → List A → Bool
 is_nil [] = true
 is_nil (x ∷ xs) = false
 
+-- The party has handed out a seal over the statement.
 unfoldable pub has_made : List MadeSeal → Who → Statement → Bool
 has_made [] who s = false
 has_made (x ∷ xs) who s = (same_who x.who who && same_statement x.statement s) || has_made xs who s
 
+-- A message to each of these destinations.
 unfoldable pub pairs_to : ℕ → List Dest → List Pair
 pairs_to m [] = []
 pairs_to m (to ∷ more) = record { message = m; to = to } ∷ pairs_to m more
@@ -222,6 +233,7 @@ own_statement (messages.Report r) = Some r.statement
 own_statement (messages.Reply s signed) = Some s
 own_statement m = None
 
+-- the statement that a server's own message seals, if any
 abbrev pub handed : ℕ → Message → Option Statement
 handed site (messages.Assign view local number value client_seal signed) = Some (a_prepare site view.0 local.0 number.0 value)
 handed site m = own_statement m
@@ -229,12 +241,15 @@ handed site m = own_statement m
 -- ---- one field changed
 
 module _ {Wire : Type 0} where
+  -- A server is changed.
   unfoldable pub with_node : World Wire → ℕ → ℕ → Node → World Wire
   with_node world site index node = record world { nodes = λ s i. cond (nat_eq site s && nat_eq index i) node (world.nodes s i) }
 
+  -- A client is changed.
   unfoldable pub with_customer : World Wire → ℕ → Customer → World Wire
   with_customer world client customer = record world { customers = λ c. cond (nat_eq client c) customer (world.customers c) }
 
+  -- What isn't delivered yet is changed.
   unfoldable pub with_waiting : World Wire → List Pair → World Wire
   with_waiting world pairs = record world { waiting = pairs }
 
@@ -254,38 +269,48 @@ module _ {Wire : Type 0} where
 
 -- ---- what a world and an event's outcome are together
 
+-- The world after an event, and what the event came to.
 pub record Stepped (Wire : Type 0) : Type 0 where
   pub world : World Wire
   pub done : Done
 
+-- a world and what the event came to
 abbrev pub stepped : {Wire : Type 0} → World Wire → Done → Stepped Wire
 stepped world done = record { world = world; done = done }
 
 -- ---- by the deployment
 
 module _ {Wire : Type 0} (d : Deployment Wire) where
+  -- how many servers a site has
   abbrev pub servers_of : ℕ
   servers_of = 3 * d.f + 1
 
+  -- what never changes at a server
   abbrev pub seat_of : ℕ → ℕ → Seat
   seat_of site index = record { site = site; index = index; sites = d.sites; f = d.f; clients = d.clients; capacity = d.capacity; serve = d.serve }
 
+  -- a server of the deployment
   abbrev pub is_server : ℕ → ℕ → Bool
   is_server site index = nat_lt site d.sites && nat_lt index servers_of
 
+  -- a server that isn't faulty
   abbrev pub is_correct : ℕ → ℕ → Bool
   is_correct site index = is_server site index && not (d.faulty site index)
 
+  -- a seal that checks
   abbrev pub checks_in : SealIn → Bool
   checks_in x = d.formats.holds x.who x.statement x.seal
 
+  -- the place of the first seal that doesn't check
   abbrev pub bad_seal : Message → Option ℕ
   bad_seal m = first_bad checks_in (d.formats.seals_in m)
 
+  -- a message that names what isn't of the deployment is unknown
   abbrev pub with_known : Reading → Reading
   with_known (Faulty reason) = Faulty reason
   with_known (Clean m) = cond (d.formats.knows m) (Clean m) (Faulty Unknown)
 
+  -- a message with a seal that doesn't check is refused
   abbrev pub with_seals : Reading → Reading
   with_seals (Faulty reason) = Faulty reason
   with_seals (Clean m) = given (bad_seal m) (Clean m) (λ place. Faulty (BadSeal place))
@@ -300,27 +325,33 @@ module _ {Wire : Type 0} (d : Deployment Wire) where
 
   -- ---- sending
 
+  -- the servers of a site, by index
   abbrev pub site_dests : ℕ → List Dest
   site_dests site = all_below (λ i. dests.Server (a_server site i) ∷ []) servers_of
 
+  -- the destinations of a scope: servers by site and index
   abbrev pub dests_of : Scope → List Dest
   dests_of scopes.All = all_below (λ s. site_dests s) d.sites
   dests_of (scopes.Site site) = site_dests site.0
   dests_of (scopes.One server) = dests.Server server ∷ []
   dests_of (scopes.Client client) = dests.Client client ∷ []
 
+  -- the bytes of a message on its way
   abbrev pub size_of : Wire → ℕ
   size_of wire = length (d.formats.bytes wire)
 
+  -- The bytes of all messages.
   unfoldable pub sent_size : List Wire → ℕ
   sent_size [] = 0
   sent_size (wire ∷ more) = size_of wire + sent_size more
 
+  -- one message too many, or one byte
   abbrev pub send_fault : World Wire → Wire → Option Fault
   send_fault world wire =
       cond (nat_le MOST_MESSAGES (length world.sent)) (Some (TooMany (length world.sent + 1)))
       (cond (nat_lt MOST_SENT (sent_size world.sent + size_of wire)) (Some (TooMuch (sent_size world.sent + size_of wire))) None)
 
+  -- A message gets the next number and waits for its destinations.
   unfoldable pub sends_to : World Wire → Wire → List Dest → World Wire
   sends_to world wire to =
       record world {
@@ -331,7 +362,7 @@ module _ {Wire : Type 0} (d : Deployment Wire) where
 
   -- ---- what a server's event comes to
 
-  -- the seal of an own message is noted
+  -- the server's own seal in a message, if there is one, is noted with its leaf
   unfoldable pub notes_seal : ℕ → ℕ → World Wire → Output → World Wire
   notes_seal site index world o =
       given o.leaf world (λ leaf. given (handed site o.message) world (λ s. hands world (server_at site index) leaf s))
@@ -340,6 +371,7 @@ module _ {Wire : Type 0} (d : Deployment Wire) where
   unfoldable pub hands_one : ℕ → ℕ → World Wire → Output → World Wire
   hands_one site index world o = sends_to (notes_seal site index world o) (d.formats.encode o.message) (dests_of o.to)
 
+  -- messages of a server's, in order
   abbrev pub hands_out : ℕ → ℕ → World Wire → List Output → World Wire
   hands_out site index world outputs = fold (hands_one site index) world outputs
 
@@ -355,6 +387,7 @@ module _ {Wire : Type 0} (d : Deployment Wire) where
         bytes = cond (is_nil plan.changes) node.bytes (node.bytes + d.formats.body_size plan.changes);
       }
 
+  -- the plan's body takes the file past its limit
   abbrev pub is_full_by : Node → Plan → Bool
   is_full_by node plan = not (is_nil plan.changes) && nat_lt MOST_JOURNAL (node.bytes + d.formats.body_size plan.changes)
 
@@ -362,6 +395,7 @@ module _ {Wire : Type 0} (d : Deployment Wire) where
   abbrev pub is_stopped_by : Node → Plan → Bool
   is_stopped_by node plan = not (is_nil plan.changes) && nat_lt 0 node.stop && nat_le node.stop 4
 
+  -- nothing is written, and the server takes no more events
   abbrev pub stands_full : Node → Node
   stands_full node = record node { stand = Full; apart = None }
 
@@ -369,6 +403,7 @@ module _ {Wire : Type 0} (d : Deployment Wire) where
   abbrev pub stands_stopped : Node → List Change → Node
   stands_stopped node changes = record node { stand = Stopped; apart = cond (nat_eq node.stop 4) (Some changes) None }
 
+  -- A plan is written and handed out, unless the journal is full or a device call fails.
   unfoldable pub comes_to : World Wire → ℕ → ℕ → Plan → Stepped Wire
   comes_to world site index plan =
       cond (is_full_by (world.nodes site index) plan)
@@ -377,27 +412,33 @@ module _ {Wire : Type 0} (d : Deployment Wire) where
       (stepped (with_node world site index (stands_stopped (world.nodes site index) plan.changes)) done.Stopped)
       (stepped (hands_out site index (with_node world site index (settled (world.nodes site index) plan)) plan.outputs) (done.Outcome plan.outcome)))
 
+  -- a server's seals
   abbrev pub pen_at : ℕ → ℕ → Pen
   pen_at site index = d.formats.seal (server_at site index)
 
+  -- a server's plan for an event
   abbrev pub plan_at : World Wire → ℕ → ℕ → Event Wire → Plan
   plan_at world site index event =
       duty reads (pen_at site index) (seat_of site index) (world.nodes site index).bodies (world.nodes site index).heard event
 
+  -- only a server that runs takes an event
   abbrev pub by_stand : World Wire → ℕ → ℕ → Event Wire → Stand → Stepped Wire
   by_stand world site index event Running = comes_to world site index (plan_at world site index event)
   by_stand world site index event Stopped = stepped world done.Stopped
   by_stand world site index event Full = stepped world done.Full
 
+  -- An event of a server; a faulty one runs no code.
   unfoldable pub serves : World Wire → ℕ → ℕ → Event Wire → Stepped Wire
   serves world site index event =
       cond (d.faulty site index) (stepped world done.Faulty) (by_stand world site index event (world.nodes site index).stand)
 
   -- ---- a client's reply
 
+  -- the same number and result
   abbrev pub same_answered : Answered → Answered → Bool
   same_answered a b = nat_eq a.number b.number && bytes_eq a.result b.result
 
+  -- the replies once this one is kept too
   abbrev pub with_reply : Customer → ℕ → ℕ → Answered → Customer
   with_reply customer site index a =
       record customer { replies = λ s i. cond (nat_eq site s && nat_eq index i) (Some a) (customer.replies s i) }
@@ -406,6 +447,7 @@ module _ {Wire : Type 0} (d : Deployment Wire) where
   abbrev pub agree_on : Customer → ℕ → Answered → ℕ
   agree_on customer site a = count_below (λ i. given (customer.replies site i) false (same_answered a)) servers_of
 
+  -- with f+1 equal replies of a site the client has its result
   abbrev pub answered : Customer → ℕ → Answered → Customer
   answered customer site a =
       cond (nat_lt d.f (agree_on customer site a))
@@ -416,6 +458,7 @@ module _ {Wire : Type 0} (d : Deployment Wire) where
   abbrev pub awaited : Customer → ℕ
   awaited customer = cond customer.waits customer.time 0
 
+  -- the client waits for its update of this time
   abbrev pub awaits : Customer → ℕ → Bool
   awaits customer time = customer.waits && nat_eq time customer.time
 
@@ -427,6 +470,7 @@ module _ {Wire : Type 0} (d : Deployment Wire) where
       (stepped (with_customer world client (answered (with_reply customer site index a) site a)) (done.Outcome Did)))
       (stepped world (done.Outcome (Ignored (OldTime (awaited customer)))))
 
+  -- a Reply at a client: another client's is not its own, then its seal is looked at
   abbrev pub on_reply : World Wire → ℕ → Message → Statement → Signed → Stepped Wire
   on_reply world client m (Reply site to time number result) signed =
       cond (nat_eq client to.0)
@@ -436,11 +480,13 @@ module _ {Wire : Type 0} (d : Deployment Wire) where
       (stepped world (done.Outcome (Ignored NotMine)))
   on_reply world client m s signed = stepped world (done.Outcome (Ignored NotMine))
 
+  -- what a client takes of a message that it reads
   abbrev pub client_takes : World Wire → ℕ → Reading → Stepped Wire
   client_takes world client (Faulty reason) = stepped world (done.Outcome (Ignored reason))
   client_takes world client (Clean (messages.Reply s signed)) = on_reply world client (messages.Reply s signed) s signed
   client_takes world client (Clean m) = stepped world (done.Outcome (Ignored NotMine))
 
+  -- A message is delivered.
   unfoldable pub delivers : World Wire → Dest → Wire → Stepped Wire
   delivers world (dests.Server server) wire = serves world server.site server.index (Deliver wire)
   delivers world (dests.Client client) wire = client_takes world client.0 (read_known wire)

@@ -10,4 +10,30 @@ pub use answers::{
     answers_of_longer_lists, answers_that_drop_nothing, answers_that_grow, log_that_runs,
 };
 pub use words::tests_of_sameness;
-pub use worlds::{duty_of_a_passed_message, worlds_of_built_lines};
+pub use worlds::{
+    duty_at_a_clean_message, messages_passed_read_clean, worlds_of_built_lines,
+    worlds_of_longer_schedules,
+};
+
+#[cfg(test)]
+mod tests {
+    use super::*;
+    use st_fields::Bytes;
+    use st_message::Message;
+    use std::test::*;
+
+    #[test]
+    fn laws_ask_nothing(rt: HostRuntime) {
+        answers_that_grow();
+        answers_of_longer_lists();
+        answers_that_drop_nothing();
+        log_that_runs();
+        tests_of_sameness();
+        messages_passed_read_clean();
+        duty_at_a_clean_message::<Message>();
+        duty_at_a_clean_message::<Bytes>();
+        worlds_of_built_lines::<Message>();
+        worlds_of_longer_schedules::<Bytes>();
+        assert!(rt; true);
+    }
+}

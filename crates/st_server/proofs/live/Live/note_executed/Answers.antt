@@ -13,9 +13,9 @@ returns-clause-ok c =
     let live = c.args.self.now in
     let next : c.args.number.0 ≡ live.here.executed + 1 = eqb-true c.args.number.0 (live.here.executed + 1) c.requires in
     stands_executed live _ _ c.move_up.new.self c.move_up-2.new.self c.move_up-3.new.self c.args.number c.args.proof.now q stands
-    c.in_ok-ran.ensures.last
-    (λ k. c.in_ok-ran.ensures.place k ∙ ap (λ n. cond (runs_for (last_of live.clients) c.args.proof.now.value k) n (place_of live.clients k)) next)
-    c.in_ok-ran.ensures.ran
+    c.in_ok-clients.ensures.last
+    (λ k. c.in_ok-clients.ensures.place k ∙ ap (λ n. cond (runs_for (last_of live.clients) c.args.proof.now.value k) n (place_of live.clients k)) next)
+    c.in_ok-clients.ensures.ran
     (c.move_up.ensures live.pending.clients list_serve c.args.number c.args.proof.now)
     (c.move_up-2.ensures live.pending.clients list_serve)
     (c.move_up-3.ensures live.pending.clients list_serve)
