@@ -1,2 +1,4 @@
 -- Lemmas.
+pub mod CollectingLaws
+pub mod CompleteLaws
 pub mod RisingLaws

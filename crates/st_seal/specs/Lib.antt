@@ -1,5 +1,6 @@
 -- The definitions that contracts cite.
 pub mod Certificates
+pub mod Collecting
 pub mod Keyed
 pub mod KeyedLaws
 pub mod KeyedSchemes

@@ -2,12 +2,14 @@
 #![tactic(auto)]
 
 mod certificate;
+mod collector;
 mod keyed;
 mod quorum;
 mod sealer;
 mod voice;
 
 pub use certificate::quorum_holds;
+pub use collector::{Added, Collector};
 pub use keyed::{KeyedSealer, KeyedSeals};
 pub use quorum::{Quorum, Quorums, Signed};
 pub use sealer::{Check, SealError, Sealer};

@@ -1,7 +1,11 @@
-use crate::{Check, KeyedSeals, SealError, Sealer};
+use crate::{
+    Added, Check, Collector, KeyedSeals, Quorum, SealError, Sealer, Signed, SiteVoice, SoloVoice,
+    Voice, quorum_holds,
+};
 use st_fields::{Bytes, Seq};
-use st_words::{ClientId, Deployment, SealKind, ServerId, ServiceKind, Who};
+use st_words::{ClientId, Deployment, SealKind, ServerId, ServiceKind, SiteId, Who};
 use std::alloc::Global;
+use std::process::Abort;
 use std::test::Fail;
 
 /// A deployment of sites of 7 servers, with 3 clients.
@@ -114,5 +118,123 @@ fn only_own_seals_check(rt: HostRuntime) -> Result<(), Fail> {
     for who in [server(7, 0), server(0, 7), Who::Client(ClientId(3))] {
         assert!(rt; !seals.has(who));
     }
+    Ok(())
+}
+
+/// The seal of a server of site 0 over `STEWARD1`.
+fn signed(alloc: Global, rt: &impl Abort, seals: &KeyedSeals, index: u8) -> Result<Signed, Fail> {
+    let who = server(0, index);
+    assert!(rt; seals.has(who));
+    let seal = seals.sealer(who).seal(alloc, 0, b"STEWARD1")?;
+    Ok(Signed { index, seal })
+}
+
+/// The seals of these servers of site 0.
+fn quorum_of(
+    alloc: Global,
+    rt: &impl Abort,
+    seals: &KeyedSeals,
+    servers: &[u8],
+) -> Result<Quorum, Fail> {
+    let mut quorum = Quorum::new(alloc);
+    for index in servers {
+        let share = signed(alloc, rt, seals, *index)?;
+        let next = share.index;
+        assert!(rt; quorum.as_slice().iter().all(|before| before.index < next));
+        quorum.push(share)?;
+    }
+    Ok(quorum)
+}
+
+/// A site's word, through the trait alone.
+fn holds<V: Voice>(voice: &V, site: u8, quorum: &Quorum) -> bool {
+    voice.holds(SiteId(site), b"STEWARD1", quorum)
+}
+
+/// Where one server of four may be faulty, three seals are a site's word.
+#[test]
+fn exactly_a_quorum_of_seals_that_check_holds(rt: HostRuntime) -> Result<(), Fail> {
+    let seals = KeyedSeals::new(&deployment(rt.alloc(), 7, SEED));
+    let three = quorum_of(rt.alloc(), &rt, &seals, &[0, 1, 3])?;
+    assert!(rt; quorum_holds(&seals, 1, SiteId(0), b"STEWARD1", &three));
+    assert!(rt; !quorum_holds(&seals, 1, SiteId(1), b"STEWARD1", &three));
+    assert!(rt; !quorum_holds(&seals, 1, SiteId(0), b"STEWARD2", &three));
+    assert!(rt; !quorum_holds(&seals, 2, SiteId(0), b"STEWARD1", &three));
+    let site = SiteVoice {
+        check: &seals,
+        f: 1,
+    };
+    assert!(rt; holds(&site, 0, &three));
+    for others in [[0, 1, 4].as_slice(), &[0, 1], &[0, 1, 2, 3]] {
+        let others = quorum_of(rt.alloc(), &rt, &seals, others)?;
+        assert!(rt; !holds(&site, 0, &others));
+    }
+    let solo = SoloVoice { check: &seals };
+    for (servers, want) in [
+        ([0].as_slice(), true),
+        (&[1], false),
+        (&[0, 1], false),
+        (&[], false),
+    ] {
+        let quorum = quorum_of(rt.alloc(), &rt, &seals, servers)?;
+        assert_eq!(rt; holds(&solo, 0, &quorum), want);
+    }
+    Ok(())
+}
+
+/// What the collector answers, in a word.
+fn word(added: Added) -> &'static str {
+    match added {
+        Added::Complete(_) => "complete",
+        Added::Kept => "kept",
+        Added::Seen => "seen",
+        Added::NotServer => "not server",
+    }
+}
+
+/// The third share over the same bytes completes the slot, with just those three seals.
+#[test]
+fn a_quorum_of_equal_shares_completes_a_slot(rt: HostRuntime) -> Result<(), Fail> {
+    let seals = KeyedSeals::new(&deployment(rt.alloc(), 7, SEED));
+    let mut collector = Collector::new(rt.alloc(), SiteId(0), 1);
+    let steps = [
+        (3, "STEWARD1", "kept"),
+        (1, "STEWARD2", "kept"),
+        (4, "STEWARD1", "not server"),
+        (1, "STEWARD1", "seen"),
+        (0, "STEWARD1", "kept"),
+    ];
+    for (index, bytes, want) in steps {
+        let share = signed(rt.alloc(), &rt, &seals, index)?;
+        let looked = collector.look(rt.alloc(), bytes.as_bytes(), &share)?;
+        assert_eq!(rt; word(looked), want, "look of {index}");
+        let added = collector.add(rt.alloc(), bytes.as_bytes(), &share)?;
+        assert_eq!(rt; word(added), want, "add of {index}");
+    }
+    let mut copy = collector.copy(rt.alloc())?;
+    completes(rt.alloc(), &rt, &mut collector, &seals)?;
+    completes(rt.alloc(), &rt, &mut copy, &seals)
+}
+
+/// The share of server 2 completes this slot, and comes once.
+fn completes(
+    alloc: Global,
+    rt: &impl Abort,
+    slot: &mut Collector,
+    seals: &KeyedSeals,
+) -> Result<(), Fail> {
+    let last = signed(alloc, rt, seals, 2)?;
+    match slot.add(alloc, b"STEWARD1", &last)? {
+        Added::Complete(quorum) => {
+            let indices = quorum.as_slice().iter().map(|signed| signed.index);
+            assert_eq!(rt;
+                indices.collect::<Vec<u8>>(alloc)?.as_slice(),
+                [0, 2, 3].as_slice()
+            );
+            assert!(rt; quorum_holds(seals, 1, SiteId(0), b"STEWARD1", &quorum));
+        }
+        other => assert_eq!(rt; word(other), "complete"),
+    }
+    assert_eq!(rt; word(slot.add(alloc, b"STEWARD1", &last)?), "seen");
     Ok(())
 }

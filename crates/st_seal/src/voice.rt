@@ -27,12 +27,14 @@ pub trait Voice {
 }
 
 /// A site speaks by certificates, where `f` of its 3f+1 servers may be faulty.
+#[derive(Drop)]
 pub struct SiteVoice<'a, C: Check> {
     pub check: &'a C,
     pub f: u8,
 }
 
 /// A site with one server, which is trusted, speaks by that server's seal.
+#[derive(Drop)]
 pub struct SoloVoice<'a, C: Check> {
     pub check: &'a C,
 }
