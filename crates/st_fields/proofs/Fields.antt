@@ -21,6 +21,7 @@ pub record IsField {A : Type 0} (read : List ℕ → Read A) (spell : A → List
 
 -- ---- what an Ok says
 
+-- an answer, whose error is a place
 abbrev done : {A : Type 0} → A → Result A ℕ
 done x = Ok x
 
@@ -81,6 +82,7 @@ abbrev pub before : List (List ℕ) → List ℕ → List ℕ
 before [] rest = rest
 before (field ∷ fields) rest = field ++ before fields rest
 
+-- fields and a rest, regrouped for reading
 pub joined-append : (fields : List (List ℕ)) (rest : List ℕ) → joined fields ++ rest ≡ before fields rest
 joined-append [] rest = refl
 joined-append (field ∷ fields) rest = append_assoc field (joined fields) rest ∙ ap (λ (t : List ℕ). field ++ t) (joined-append fields rest)

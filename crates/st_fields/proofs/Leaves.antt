@@ -1,5 +1,5 @@
 -- The fields that every format is made of: bytes, numbers, texts and marks.
-use Rattle.std.proofs.Common.{◌≡◌, ℕ, suc, ◌+◌, ◌-◌, ◌^◌, ◌<◌, ◌≤◌, Bool, true, false, cond, eqb, ltb, leb, List, [], ◌∷◌, ◌++◌, length, get_or, take, drop, Result, Ok, Err, refl, sym, ap, subst, ◌∙◌, arith, inl, inr}
+use Rattle.std.proofs.Common.{◌≡◌, ℕ, suc, ◌+◌, ◌-◌, ◌^◌, ◌<◌, ◌≤◌, true, false, eqb, ltb, leb, List, [], ◌∷◌, ◌++◌, length, take, drop, Ok, refl, sym, ap, subst, ◌∙◌, arith, inl, inr}
 use Rattle.std.specs.Int.{Width, w16, w32, w64, byte_len, from_be_bytes, to_be_bytes, is_in_range, IsInRange}
 use Rattle.std.specs.List.{starts_with}
 use Rattle.std.proofs.lemmas.Bool.Decides.{Decides-eqb}
@@ -24,9 +24,11 @@ byte_field = record { takes = byte_takes; again = λ n rest lt. refl }
 
 -- ---- bytes by their number
 
+-- bytes without their front are bytes
 IsBytes-drop : (n : ℕ) (bytes : List ℕ) → IsBytes bytes → IsBytes (drop n bytes)
 IsBytes-drop n bytes fits i = rw get_or-drop (fits (n + i))
 
+-- a front of bytes is bytes
 IsBytes-take : (n : ℕ) (bytes : List ℕ) → IsBytes bytes → IsBytes (take n bytes)
 IsBytes-take n bytes fits i =
     elim (cases_lt i n) [
@@ -40,6 +42,7 @@ pub record IsFront (n : ℕ) (bytes front rest : List ℕ) : Type 0 where
   pub count : length front ≡ n
   pub fits : IsBytes front
 
+-- what is read is the front
 pub bytes_at_takes : (n : ℕ) (bytes front rest : List ℕ) → IsBytes bytes → bytes_at n bytes ≡ Ok (front, rest) → IsFront n bytes front rest
 unfolding bytes_at
 bytes_at_takes n bytes front rest fits e =
@@ -52,6 +55,7 @@ bytes_at_takes n bytes front rest fits e =
       fits = IsBytes-take n bytes fits;
     })
 
+-- a front of that many bytes is read
 pub bytes_at_again : (n : ℕ) (front rest : List ℕ) → length front ≡ n → bytes_at n (front ++ rest) ≡ Ok (front, rest)
 unfolding bytes_at
 bytes_at_again n front rest count =
@@ -67,6 +71,7 @@ pub record IsWide (w : Width) (limit : ℕ) : Type 0 where
   pub again : (n : ℕ) → n < limit → from_be_bytes w (to_be_bytes w n) ≡ n
   pub below : (bytes : List ℕ) → IsBytes bytes → from_be_bytes w bytes < limit
 
+-- two bytes
 pub wide16 : IsWide w16 (2 ^ 16)
 wide16 = record {
   len = λ n. refl;
@@ -75,6 +80,7 @@ wide16 = record {
   below = λ bytes fits. omega (arith, fits 0, fits 1);
 }
 
+-- four bytes
 pub wide32 : IsWide w32 (2 ^ 32)
 wide32 = record {
   len = λ n. refl;
@@ -83,6 +89,7 @@ wide32 = record {
   below = λ bytes fits. omega (arith, fits 0, fits 1, fits 2, fits 3);
 }
 
+-- eight bytes
 pub wide64 : IsWide w64 (2 ^ 64)
 wide64 = record {
   len = λ n. refl;
@@ -105,12 +112,15 @@ number_field w limit wide = record {
       ∙ ap (λ (m : ℕ). Ok (m, rest)) (wide.again n lt);
 }
 
+-- a number of two bytes
 pub u16_field : IsField (number_at w16) (number w16) (λ n. n < 2 ^ 16)
 u16_field = number_field w16 (2 ^ 16) wide16
 
+-- a number of four bytes
 pub u32_field : IsField (number_at w32) (number w32) (λ n. n < 2 ^ 32)
 u32_field = number_field w32 (2 ^ 32) wide32
 
+-- a number of eight bytes
 pub u64_field : IsField (number_at w64) (number w64) (λ n. n < 2 ^ 64)
 u64_field = number_field w64 (2 ^ 64) wide64
 
@@ -122,6 +132,7 @@ is_in_range-true least most n e =
     let parts = and_parts (leb least n) (leb n most) e in
     (leb-true least n parts.0, leb-true n most parts.1)
 
+-- and what passes it
 pub is_in_range-from : (least most n : ℕ) → IsInRange least most n → is_in_range least most n ≡ true
 is_in_range-from least most n within = and_from (leb least n) (leb n most) (le-leb least n within.0) (le-leb n most within.1)
 

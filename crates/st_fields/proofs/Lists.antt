@@ -1,13 +1,15 @@
 -- Lists of fields, with a rule on each element that hangs on those before it.
-use Rattle.std.proofs.Common.{◌≡◌, ℕ, zero, suc, ◌+◌, ◌^◌, ◌<◌, ◌≤◌, List, [], ◌∷◌, ◌++◌, length, Result, Ok, Err, refl, sym, ap, subst, ◌∙◌, append_assoc, arith}
+use Rattle.std.proofs.Common.{◌≡◌, ℕ, zero, suc, ◌^◌, ◌<◌, List, [], ◌∷◌, ◌++◌, length, Ok, refl, sym, ap, subst, ◌∙◌, append_assoc, arith}
 use Rattle.std.specs.Int.{IsInRange}
 use Rattle.std.specs.List.{flat_map}
 use Rattle.st_fields.specs.Spelling.{byte, counted, KeepsEach}
-use Rattle.st_fields.specs.Reading.{Read, ◌>>=◌, list_at, counted_at, byte_in}
+use Rattle.st_fields.specs.Reading.{Read, ◌>>=◌, list_at, counted_at}
 use Rattle.st_fields.proofs.Fields.{IsBytes, Takes, IsField, ok_is, bind_ok, step, again_step, ◌▷◌, none, joined-append}
 use Rattle.st_fields.proofs.Leaves.{byte_in_field}
 
+-- lists of a field whose range hangs on a state, which each element carries on
 module _ {A S : Type 0} (read : S → List ℕ → Read A) (next : S → A → S) (spell : A → List ℕ) (Keeps : S → A → Type 0) (field : (state : S) → IsField (read state) spell (Keeps state)) where
+  -- the elements that are read are spelled so
   list_takes : (n : ℕ) (state : S) (bytes : List ℕ) (xs : List A) (rest : List ℕ) → IsBytes bytes → list_at read next n state bytes ≡ Ok (xs, rest) → Takes bytes (flat_map spell xs) rest × ((length xs ≡ n) × KeepsEach Keeps next state xs)
   unfolding list_at
   list_takes zero state bytes xs rest fits e =
@@ -19,6 +21,7 @@ module _ {A S : Type 0} (read : S → List ℕ → Read A) (next : S → A → S
       subst (λ (p : List A × List ℕ). Takes bytes (flat_map spell p.0) p.1 × ((length p.0 ≡ suc n) × KeepsEach Keeps next state p.0)) (ok_is (x ∷ b.0, b.1) (xs, rest) b.3)
       (t ▷ more.0, (ap (λ (k : ℕ). suc k) more.1.0, (keeps, more.1.1)))
 
+  -- elements that are spelled so are read
   list_again : (state : S) (xs : List A) (rest : List ℕ) → KeepsEach Keeps next state xs → list_at read next (length xs) state (flat_map spell xs ++ rest) ≡ Ok (xs, rest)
   unfolding list_at
   list_again state [] rest keeps = refl

@@ -1,5 +1,5 @@
 -- Reading elements one after another, as a loop does.
-use Rattle.std.proofs.Common.{◌≡◌, ℕ, suc, ◌-◌, ◌+◌, ◌≤◌, ◌<◌, List, [], ◌∷◌, ◌++◌, Result, Ok, Err, refl, sym, ap, ◌∙◌, append_assoc, arith}
+use Rattle.std.proofs.Common.{◌≡◌, ℕ, suc, ◌-◌, ◌+◌, ◌≤◌, ◌<◌, List, [], ◌∷◌, ◌++◌, Ok, Err, refl, sym, ap, ◌∙◌, append_assoc, arith}
 use Rattle.std.proofs.lemmas.List.{append-nil}
 use Rattle.st_fields.specs.declared.error.FieldError.{FieldError}
 use Rattle.st_fields.specs.declared.error.FieldError.TheVariants as fields
@@ -9,6 +9,7 @@ use Rattle.st_fields.specs.Reading.{Read, ◌>>=◌, Fails, list_at}
 abbrev pub with_front : {A : Type 0} → List A → Read (List A) → Read (List A)
 with_front front read = read >>= λ xs rest. Ok (front ++ xs, rest)
 
+-- an element that was read joins those before it
 with_front-cons : {A : Type 0} (front : List A) (x : A) (read : Read (List A)) → with_front front (read >>= λ xs rest. Ok (x ∷ xs, rest)) ≡ with_front (front ++ x ∷ []) read
 with_front-cons {A} front x (Ok p) = ap (λ (xs : List A). Ok (xs, p.1)) (simp append_assoc)
 with_front-cons front x (Err left) = refl

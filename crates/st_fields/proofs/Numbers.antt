@@ -1,12 +1,12 @@
 -- Kinds that stand as their numbers.
-use Rattle.std.proofs.Common.{◌≡◌, ℕ, ◌^◌, ◌<◌, Bool, true, false, cond, eqb, List, [], ◌∷◌, ◌++◌, length, Option, Some, None, Result, Ok, Err, refl, sym, ap, subst, ◌∙◌, inl, inr, ◌⊎◌}
-use Rattle.std.specs.Prelude.{IsTrue, find, ◌||◌}
+use Rattle.std.proofs.Common.{◌≡◌, ℕ, Bool, true, eqb, List, [], ◌∷◌, length, Option, Some, None, Ok, refl, sym, ap, subst, inl, inr}
+use Rattle.std.specs.Prelude.{IsTrue, find}
 use Rattle.std.specs.List.{list_any}
 use Rattle.std.specs.Option.{ok_or, option_map}
-use Rattle.std.proofs.lemmas.Bool.{eqb-true, eq-eqb, cases_Bool, or_left, or_right}
+use Rattle.std.proofs.lemmas.Bool.{eqb-true, cases_Bool, or_left, or_right}
 use Rattle.st_fields.specs.Spelling.{byte, is_among}
-use Rattle.st_fields.specs.Reading.{Read, ◌>>=◌, byte_at, kind_at}
-use Rattle.st_fields.proofs.Fields.{IsBytes, Takes, IsField, ok_is, step, again_step}
+use Rattle.st_fields.specs.Reading.{byte_at, kind_at}
+use Rattle.st_fields.proofs.Fields.{IsField, ok_is, step}
 use Rattle.st_fields.proofs.Leaves.{byte_field}
 
 -- what is found passes the test, and so does an element of the list

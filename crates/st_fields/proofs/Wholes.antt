@@ -1,13 +1,13 @@
 -- What reading a whole input says: the bytes are the value's spelling, and a value's spelling is read.
-use Rattle.std.proofs.Common.{◌≡◌, ℕ, Bool, true, false, cond, eqb, List, [], ◌∷◌, ◌++◌, length, Result, Ok, Err, refl, sym, ap, subst, ◌∙◌}
+use Rattle.std.proofs.Common.{◌≡◌, ℕ, eqb, List, [], ◌++◌, length, Result, Ok, Err, sym, ap, subst, ◌∙◌}
 use Rattle.std.proofs.lemmas.List.{append-nil, nil_from_length}
 use Rattle.std.proofs.lemmas.Bool.{eqb-true}
 use Rattle.std.specs.Prelude.{IfOk}
 use Rattle.st_fields.specs.declared.error.WordsError.{WordsError}
-use Rattle.st_fields.specs.declared.error.WordsError.TheVariants as words
 use Rattle.st_fields.specs.Reading.{Read, ◌>>=◌, ended, placed, all_read, whole, Answers}
-use Rattle.st_fields.proofs.Fields.{IsBytes, IsField, ok_is, guard_ok, step}
+use Rattle.st_fields.proofs.Fields.{IsBytes, IsField, guard_ok, step}
 
+-- placing a fault changes no value
 placed_ok : {A : Type 0} (total : ℕ) (read : Result A ℕ) (x : A) → placed total read ≡ Ok x → read ≡ Ok x
 placed_ok total (Ok y) x e = e
 placed_ok total (Err left) x e = absurd cc

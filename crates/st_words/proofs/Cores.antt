@@ -1,11 +1,10 @@
 -- Cores, reports and statements as fields.
-use Rattle.std.proofs.Common.{◌≡◌, ℕ, ◌+◌, ◌^◌, ◌<◌, ◌≤◌, Bool, true, false, cond, eqb, List, [], ◌∷◌, ◌++◌, length, Option, Some, Result, Ok, Err, refl, sym, ap, subst, ◌∙◌, arith, inl, inr}
+use Rattle.std.proofs.Common.{◌≡◌, ℕ, ◌^◌, ◌<◌, true, false, cond, eqb, List, [], ◌∷◌, ◌++◌, length, Option, Some, Ok, Err, refl, sym, ap, subst, ◌∙◌, arith, inl, inr}
 use Rattle.std.specs.Int.{w64}
 use Rattle.std.specs.Prelude.{IsTrue, find, ◌&&◌}
 use Rattle.std.proofs.lemmas.Bool.{eqb-true, and_parts, and_from, and_right, cond-true, cond-false}
 use Rattle.st_fields.specs.Spelling.{byte, number, is_among}
-use Rattle.st_fields.specs.Reading.{Read, ◌>>=◌}
-use Rattle.st_fields.proofs.Fields.{IsBytes, Takes, IsField, ok_is, guard_read, chosen, step, again_step, ◌▷◌, none, joined-append}
+use Rattle.st_fields.proofs.Fields.{Takes, IsField, ok_is, guard_read, chosen, step, again_step, ◌▷◌, none, joined-append}
 use Rattle.st_fields.proofs.Leaves.{byte_field, u64_field, mark_field}
 use Rattle.st_fields.proofs.Numbers.{kind_field}
 use Rattle.st_words.specs.declared.kind.StatementKind.{StatementKind}
@@ -16,14 +15,16 @@ use Rattle.st_words.specs.declared.limits.ReportBounds.{ReportBounds}
 use Rattle.st_words.specs.Kind.{kind_number, kind_of}
 use Rattle.st_words.specs.Ranges.{KeepsStatement, KeepsBounds, FitsStatement}
 use Rattle.st_words.specs.Spelling.{fields_spelling, core_spelling, statement_mark, statement_spelling}
-use Rattle.st_words.specs.Reading.{core_at, local_report_at, global_report_at, report_at, statement_at, fields_at, all_kinds}
-use Rattle.st_words.proofs.Statements.{IsKind, IsRead, fields_field, local_report_takes, local_report_again, global_report_takes, global_report_again}
+use Rattle.st_words.specs.Reading.{core_at, local_report_at, global_report_at, report_at, statement_at, all_kinds}
+use Rattle.st_words.proofs.Statements.{IsRead, fields_field, local_report_takes, local_report_again, global_report_takes, global_report_again}
 
 -- ---- a number has one kind
 
+-- the kind of a number
 named : ℕ → Option StatementKind
 named n = find (λ k. eqb (kind_number k) n) all_kinds
 
+-- each kind is the kind of its number
 named-number : (kind : StatementKind) → named (kind_number kind) ≡ Some kind
 unfolding named
 named-number kinds.Prepare = refl
@@ -38,9 +39,11 @@ named-number kinds.GlobalUnion = refl
 named-number kinds.Reply = refl
 named-number kinds.ClientUpdate = refl
 
+-- two kinds have two numbers
 one_kind : (j k : StatementKind) → kind_number j ≡ kind_number k → j ≡ k
 one_kind j k e = let same : Some j ≡ Some k = sym (named-number j) ∙ ap named e ∙ named-number k in cc
 
+-- each kind is among them all
 is_among-all : (kind : StatementKind) → IsTrue (is_among kind_number all_kinds kind)
 is_among-all kinds.Prepare = refl
 is_among-all kinds.Proposal = refl

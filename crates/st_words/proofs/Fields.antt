@@ -1,13 +1,13 @@
 -- Updates, values and items as fields: what is read is spelled so, and what is spelled so is read.
-use Rattle.std.proofs.Common.{◌≡◌, ℕ, ◌+◌, ◌-◌, ◌^◌, ◌<◌, ◌≤◌, Bool, true, false, cond, eqb, List, [], ◌∷◌, ◌++◌, length, Result, Ok, Err, refl, sym, ap, subst, ◌∙◌, arith, inl, inr, lit<}
-use Rattle.std.specs.Int.{w32, w64}
+use Rattle.std.proofs.Common.{◌≡◌, ℕ, eqb, List, [], ◌∷◌, ◌++◌, Ok, refl, ap, subst, ◌∙◌, arith, inl, inr, lit<}
+use Rattle.std.specs.Int.{w32}
 use Rattle.std.specs.Prelude.{All}
-use Rattle.std.proofs.lemmas.Bool.{eqb-true, eqb-false, ne_eqb}
+use Rattle.std.proofs.lemmas.Bool.{eqb-true, eqb-false}
 use Rattle.std.proofs.lemmas.List.Elements.{All-nil, All-cons, All-head, All-tail}
-use Rattle.st_fields.specs.Spelling.{joined, byte, number, text, KeepsEach}
-use Rattle.st_fields.specs.Reading.{Read, ◌>>=◌}
-use Rattle.st_fields.proofs.Fields.{IsBytes, Takes, IsField, ok_is, chosen, step, again_step, ◌▷◌, none, joined-append, kept_by}
-use Rattle.st_fields.proofs.Leaves.{byte_field, byte_in_field, u32_field, u32_in_field, u32_above_field, positive_field, text_field, mark_field}
+use Rattle.st_fields.specs.Spelling.{byte, number, text, KeepsEach}
+use Rattle.st_fields.specs.Reading.{◌>>=◌}
+use Rattle.st_fields.proofs.Fields.{Takes, IsField, ok_is, chosen, step, again_step, ◌▷◌, none, joined-append, kept_by}
+use Rattle.st_fields.proofs.Leaves.{byte_field, byte_in_field, u32_in_field, u32_above_field, positive_field, text_field, mark_field}
 use Rattle.st_fields.proofs.Lists.{counted_field}
 use Rattle.st_words.specs.declared.value.Update.{Update}
 use Rattle.st_words.specs.declared.value.Value.{Value}
@@ -95,12 +95,14 @@ item_field limits = record {
       (again_step value_field _ _ i.value (k.0.4, k.1.3) refl))));
 }
 
+-- what the items of a list keep, the rule and the widths apart
 KeepsEach-parts : (limits : ItemLimits) (items : List Item) → KeepsEach (λ l i. KeepsItem l i × FitsItem i) after_item limits items → KeepsEach KeepsItem after_item limits items × All FitsItem items
 KeepsEach-parts limits [] k = (tt, All-nil FitsItem)
 KeepsEach-parts limits (i ∷ items) k =
     let more = KeepsEach-parts (after_item limits i) items k.1 in
     ((k.0.0, more.0), All-cons FitsItem i items k.0.1 more.1)
 
+-- and the two together
 KeepsEach-from : (limits : ItemLimits) (items : List Item) → KeepsEach KeepsItem after_item limits items → All FitsItem items → KeepsEach (λ l i. KeepsItem l i × FitsItem i) after_item limits items
 KeepsEach-from limits [] k fits = tt
 KeepsEach-from limits (i ∷ items) k fits = ((k.0, All-head FitsItem i items fits), KeepsEach-from (after_item limits i) items k.1 (All-tail FitsItem i items fits))

@@ -1,5 +1,5 @@
 -- What the ranges of a list of items say of each item.
-use Rattle.std.proofs.Common.{ℕ, List, [], ◌∷◌, All}
+use Rattle.std.proofs.Common.{List, [], ◌∷◌, All}
 use Rattle.std.proofs.lemmas.List.Elements.{All-nil, All-cons}
 use Rattle.st_fields.specs.Spelling.{KeepsEach}
 use Rattle.st_words.specs.declared.statement.Item.{Item}

@@ -1,19 +1,17 @@
 -- Statements as fields, kind by kind: what is read is spelled so, and what is spelled so is read.
-use Rattle.std.proofs.Common.{◌≡◌, ℕ, ◌+◌, ◌-◌, ◌^◌, ◌<◌, ◌≤◌, Bool, true, false, cond, eqb, List, [], ◌∷◌, ◌++◌, length, Result, Ok, Err, refl, sym, ap, subst, ◌∙◌, arith, inl, inr, ◌⊎◌, lit<}
-use Rattle.std.specs.Int.{w32, w64}
-use Rattle.std.specs.Prelude.{All, IsTrue}
-use Rattle.st_fields.specs.Spelling.{joined, byte, number, text}
-use Rattle.st_fields.specs.Reading.{Read, ◌>>=◌}
+use Rattle.std.proofs.Common.{◌≡◌, ℕ, ◌-◌, List, [], ◌∷◌, ◌++◌, Ok, refl, sym, ap, subst, ◌∙◌, arith, inl, inr, ◌⊎◌, lit<}
+use Rattle.std.specs.Int.{w32}
+use Rattle.std.specs.Prelude.{IsTrue}
+use Rattle.st_fields.specs.Spelling.{byte, number, text}
 use Rattle.st_fields.proofs.Fields.{IsBytes, Takes, IsField, ok_is, step, again_step, ◌▷◌, none, joined-append}
 use Rattle.st_fields.proofs.Leaves.{byte_field, byte_in_field, u32_field, u32_in_field, u32_above_field, positive_field, text_field, mark_field}
 use Rattle.st_words.specs.declared.kind.StatementKind.{StatementKind}
 use Rattle.st_words.specs.declared.kind.StatementKind.TheVariants as kinds
-use Rattle.st_words.specs.declared.statement.Item.{Item}
 use Rattle.st_words.specs.declared.statement.Statement.{Statement}
 use Rattle.st_words.specs.declared.statement.Statement.TheVariants.{Prepare, Proposal, Accept, LocalVc, GlobalVc, LocalReport, GlobalReport, LocalUnion, GlobalUnion, Reply, ClientUpdate}
 use Rattle.st_words.specs.declared.limits.ReportBounds.{ReportBounds}
 use Rattle.st_words.specs.Kind.{kind_of}
-use Rattle.st_words.specs.Ranges.{most_text, most_base, no_limit, limits_above, KeepsStatement, KeepsBounds, FitsStatement, FitsItem, KeepsItems, KeepsUpdate, FitsUpdate}
+use Rattle.st_words.specs.Ranges.{most_text, most_base, no_limit, limits_above, KeepsStatement, KeepsBounds, FitsStatement}
 use Rattle.st_words.specs.Spelling.{fields_spelling, value_spelling, items_spelling, update_spelling}
 use Rattle.st_words.specs.Reading.{prepare_at, proposal_at, accept_at, local_vc_at, global_vc_at, local_report_at, global_report_at, local_union_at, global_union_at, reply_at, client_update_at, any_report, fields_at}
 use Rattle.st_words.proofs.Fields.{update_field, value_field, items_field}
@@ -28,6 +26,7 @@ IsRead kind bytes p = Takes bytes (fields_spelling p.0) p.1 × IsKind kind p.0
 
 -- ---- what is read is spelled so
 
+-- a Prepare
 prepare_takes : (bytes : List ℕ) (s : Statement) (rest : List ℕ) → IsBytes bytes → prepare_at bytes ≡ Ok (s, rest) → IsRead kinds.Prepare bytes (s, rest)
 unfolding prepare_at fields_spelling
 prepare_takes bytes s rest fits e =
@@ -39,6 +38,7 @@ prepare_takes bytes s rest fits e =
     subst (IsRead kinds.Prepare bytes) (ok_is _ (s, rest) e4)
     (t0 ▷ (t1 ▷ (t2 ▷ (t3 ▷ (t4 ▷ none t4.rest_fits)))), (refl, ((k3.1, k4.0), (k0, k1, k2, k3.0, k4.1))))
 
+-- a Proposal
 proposal_takes : (bytes : List ℕ) (s : Statement) (rest : List ℕ) → IsBytes bytes → proposal_at bytes ≡ Ok (s, rest) → IsRead kinds.Proposal bytes (s, rest)
 unfolding proposal_at fields_spelling
 proposal_takes bytes s rest fits e =
@@ -50,6 +50,7 @@ proposal_takes bytes s rest fits e =
     subst (IsRead kinds.Proposal bytes) (ok_is _ (s, rest) e4)
     (t0 ▷ (t1 ▷ (t2 ▷ (t3 ▷ (t4 ▷ none t4.rest_fits)))), (refl, ((k3.1, k4.0), (k0, k1, k2, k3.0, k4.1))))
 
+-- an Accept
 accept_takes : (bytes : List ℕ) (s : Statement) (rest : List ℕ) → IsBytes bytes → accept_at bytes ≡ Ok (s, rest) → IsRead kinds.Accept bytes (s, rest)
 unfolding accept_at fields_spelling
 accept_takes bytes s rest fits e =
@@ -60,6 +61,7 @@ accept_takes bytes s rest fits e =
     subst (IsRead kinds.Accept bytes) (ok_is _ (s, rest) e3)
     (t0 ▷ (t1 ▷ (t2 ▷ (t3 ▷ none t3.rest_fits))), (refl, ((k2.1, k3.0), (k0, k1, k2.0, k3.1))))
 
+-- a LocalVc
 local_vc_takes : (bytes : List ℕ) (s : Statement) (rest : List ℕ) → IsBytes bytes → local_vc_at bytes ≡ Ok (s, rest) → IsRead kinds.LocalVc bytes (s, rest)
 unfolding local_vc_at fields_spelling
 local_vc_takes bytes s rest fits e =
@@ -67,6 +69,7 @@ local_vc_takes bytes s rest fits e =
     step positive_field r0 (s, rest) t0.rest_fits e0 λ local r1 t1 k1 e1.
     subst (IsRead kinds.LocalVc bytes) (ok_is _ (s, rest) e1) (t0 ▷ (t1 ▷ none t1.rest_fits), (refl, (k1.1, (k0, k1.0))))
 
+-- a GlobalVc
 global_vc_takes : (bytes : List ℕ) (s : Statement) (rest : List ℕ) → IsBytes bytes → global_vc_at bytes ≡ Ok (s, rest) → IsRead kinds.GlobalVc bytes (s, rest)
 unfolding global_vc_at fields_spelling
 global_vc_takes bytes s rest fits e =
@@ -74,6 +77,7 @@ global_vc_takes bytes s rest fits e =
     step positive_field r0 (s, rest) t0.rest_fits e0 λ view r1 t1 k1 e1.
     subst (IsRead kinds.GlobalVc bytes) (ok_is _ (s, rest) e1) (t0 ▷ (t1 ▷ none t1.rest_fits), (refl, (k1.1, (k0, k1.0))))
 
+-- a LocalReport within bounds
 pub local_report_takes : (bounds : ReportBounds) → IsTrue bounds.local → (bytes : List ℕ) (s : Statement) (rest : List ℕ) → IsBytes bytes → local_report_at bounds bytes ≡ Ok (s, rest) → IsRead kinds.LocalReport bytes (s, rest) × KeepsBounds bounds s
 unfolding local_report_at fields_spelling
 local_report_takes bounds allowed bytes s rest fits e =
@@ -88,6 +92,7 @@ local_report_takes bounds allowed bytes s rest fits e =
       (allowed, k0.1, k1.1, k1.2, k2.1.0),
     )
 
+-- a GlobalReport within bounds
 pub global_report_takes : (bounds : ReportBounds) → IsTrue bounds.global → (bytes : List ℕ) (s : Statement) (rest : List ℕ) → IsBytes bytes → global_report_at bounds bytes ≡ Ok (s, rest) → IsRead kinds.GlobalReport bytes (s, rest) × KeepsBounds bounds s
 unfolding global_report_at fields_spelling
 global_report_takes bounds allowed bytes s rest fits e =
@@ -101,6 +106,7 @@ global_report_takes bounds allowed bytes s rest fits e =
       (allowed, k0.1, k1.1, k1.2, k2.1.0),
     )
 
+-- a LocalUnion
 local_union_takes : (bytes : List ℕ) (s : Statement) (rest : List ℕ) → IsBytes bytes → local_union_at bytes ≡ Ok (s, rest) → IsRead kinds.LocalUnion bytes (s, rest)
 unfolding local_union_at fields_spelling
 local_union_takes bytes s rest fits e =
@@ -112,6 +118,7 @@ local_union_takes bytes s rest fits e =
     subst (IsRead kinds.LocalUnion bytes) (ok_is _ (s, rest) e4)
     (t0 ▷ (t1 ▷ (t2 ▷ (t3 ▷ (t4 ▷ none t4.rest_fits)))), (refl, ((k1.1, k3.1.1, k4.0), (k0, k1.0, k2, k3.0, k4.1))))
 
+-- a GlobalUnion
 global_union_takes : (bytes : List ℕ) (s : Statement) (rest : List ℕ) → IsBytes bytes → global_union_at bytes ≡ Ok (s, rest) → IsRead kinds.GlobalUnion bytes (s, rest)
 unfolding global_union_at fields_spelling
 global_union_takes bytes s rest fits e =
@@ -122,6 +129,7 @@ global_union_takes bytes s rest fits e =
     subst (IsRead kinds.GlobalUnion bytes) (ok_is _ (s, rest) e3)
     (t0 ▷ (t1 ▷ (t2 ▷ (t3 ▷ none t3.rest_fits))), (refl, ((k1.1, k2.1.1, k3.0), (k0, k1.0, k2.0, k3.1))))
 
+-- a Reply
 reply_takes : (bytes : List ℕ) (s : Statement) (rest : List ℕ) → IsBytes bytes → reply_at bytes ≡ Ok (s, rest) → IsRead kinds.Reply bytes (s, rest)
 unfolding reply_at fields_spelling
 reply_takes bytes s rest fits e =
@@ -133,6 +141,7 @@ reply_takes bytes s rest fits e =
     subst (IsRead kinds.Reply bytes) (ok_is _ (s, rest) e4)
     (t0 ▷ (t1 ▷ (t2 ▷ (t3 ▷ (t4 ▷ none t4.rest_fits)))), (refl, ((k2.1, k3.1, k4.1), (k0, k1, k2.0, k3.0))))
 
+-- a ClientUpdate
 client_update_takes : (bytes : List ℕ) (s : Statement) (rest : List ℕ) → IsBytes bytes → client_update_at bytes ≡ Ok (s, rest) → IsRead kinds.ClientUpdate bytes (s, rest)
 unfolding client_update_at fields_spelling
 client_update_takes bytes s rest fits e =
@@ -140,6 +149,7 @@ client_update_takes bytes s rest fits e =
     step update_field r0 (s, rest) t0.rest_fits e0 λ update r1 t1 k1 e1.
     subst (IsRead kinds.ClientUpdate bytes) (ok_is _ (s, rest) e1) (t0 ▷ (t1 ▷ none t1.rest_fits), (refl, k1))
 
+-- the fields of a kind
 fields_takes : (kind : StatementKind) (bytes : List ℕ) (s : Statement) (rest : List ℕ) → IsBytes bytes → fields_at kind bytes ≡ Ok (s, rest) → IsRead kind bytes (s, rest)
 fields_takes kinds.Prepare bytes s rest fits e = prepare_takes bytes s rest fits e
 fields_takes kinds.Proposal bytes s rest fits e = proposal_takes bytes s rest fits e
@@ -155,6 +165,7 @@ fields_takes kinds.ClientUpdate bytes s rest fits e = client_update_takes bytes 
 
 -- ---- what is spelled so is read
 
+-- a LocalReport within bounds
 pub local_report_again : (bounds : ReportBounds) (s : Statement) (rest : List ℕ) → KeepsBounds bounds s → IsKind kinds.LocalReport s → local_report_at bounds (fields_spelling s ++ rest) ≡ Ok (s, rest)
 unfolding local_report_at fields_spelling
 local_report_again bounds (LocalReport site local index view base items) rest b (is, (k, f)) =
@@ -167,6 +178,7 @@ local_report_again bounds (LocalReport site local index view base items) rest b 
     (again_step (items_field (limits_above base view.0 (local.0 - 1))) _ _ items (k.2, f.5) refl))))))
 local_report_again bounds _ rest b (is, (k, f)) = absurd cc
 
+-- a GlobalReport within bounds
 pub global_report_again : (bounds : ReportBounds) (s : Statement) (rest : List ℕ) → KeepsBounds bounds s → IsKind kinds.GlobalReport s → global_report_at bounds (fields_spelling s ++ rest) ≡ Ok (s, rest)
 unfolding global_report_at fields_spelling
 global_report_again bounds (GlobalReport site view index base items) rest b (is, (k, f)) =
@@ -185,6 +197,7 @@ any_report_bounds (GlobalReport site view index base items) kind report (is, (k,
 any_report_bounds _ kind (inl local) (is, (k, f)) = absurd cc
 any_report_bounds _ kind (inr global) (is, (k, f)) = absurd cc
 
+-- the fields of each kind
 fields_again : (s : Statement) (rest : List ℕ) → KeepsStatement s → FitsStatement s → fields_at (kind_of s) (fields_spelling s ++ rest) ≡ Ok (s, rest)
 unfolding prepare_at proposal_at accept_at local_vc_at global_vc_at local_union_at global_union_at reply_at client_update_at fields_spelling
 fields_again (Prepare site view local n v) rest k f =

@@ -1,6 +1,6 @@
 -- The ranges of fields. What a format asks (Keeps) stands apart from what every value of the code's
 -- types meets (Fits), so that a caller of a writer owes only the first.
-use Rattle.std.specs.Prelude.{ℕ, ◌+◌, ◌-◌, ◌^◌, ◌<◌, ◌≤◌, Bool, true, false, IsTrue, List, length, All}
+use Rattle.std.specs.Prelude.{ℕ, ◌+◌, ◌-◌, ◌^◌, ◌<◌, ◌≤◌, true, false, IsTrue, List, length, All}
 use Rattle.std.specs.Int.{IsInRange}
 use Rattle.st_fields.specs.Spelling.{KeepsEach}
 use Rattle.st_words.specs.declared.value.Update.{Update}
@@ -34,6 +34,7 @@ no_limit = 2 ^ 32 - 1
 abbrev pub KeepsUpdate : Update → Type 0
 KeepsUpdate u = (1 ≤ u.time) × (length u.op ≤ most_text)
 
+-- a value that keeps its ranges
 abbrev pub KeepsValue : Value → Type 0
 KeepsValue values.Noop = Unit {0}
 KeepsValue (values.Update u) = KeepsUpdate u
@@ -46,6 +47,7 @@ KeepsItem limits i = (limits.after < i.number.0) × (i.number.0 ≤ limits.most)
 abbrev pub after_item : ItemLimits → Item → ItemLimits
 after_item limits i = record limits { after = i.number.0 }
 
+-- items whose numbers rise, the first within the limits
 abbrev pub KeepsItems : ItemLimits → List Item → Type 0
 KeepsItems limits items = (length items ≤ most_items) × KeepsEach KeepsItem after_item limits items
 
@@ -82,16 +84,20 @@ after_report b _ = b
 
 -- ---- what the code's types keep
 
+-- an update's numbers are of their widths
 abbrev pub FitsUpdate : Update → Type 0
 FitsUpdate u = (u.client.0 < 2 ^ 8) × (u.time < 2 ^ 32)
 
+-- a value's numbers are of their widths
 abbrev pub FitsValue : Value → Type 0
 FitsValue values.Noop = Unit {0}
 FitsValue (values.Update u) = FitsUpdate u
 
+-- an item's numbers are of their widths
 abbrev pub FitsItem : Item → Type 0
 FitsItem i = (i.number.0 < 2 ^ 32) × (i.view.0 < 2 ^ 32) × (i.local.0 < 2 ^ 32) × FitsValue i.value
 
+-- a statement's numbers are of their widths
 abbrev pub FitsStatement : Statement → Type 0
 FitsStatement (Prepare site view local n v) = (site.0 < 2 ^ 8) × (view.0 < 2 ^ 32) × (local.0 < 2 ^ 32) × (n.0 < 2 ^ 32) × FitsValue v
 FitsStatement (Proposal site view local n v) = (site.0 < 2 ^ 8) × (view.0 < 2 ^ 32) × (local.0 < 2 ^ 32) × (n.0 < 2 ^ 32) × FitsValue v

@@ -1,8 +1,8 @@
 -- Reading updates, values, items and statements from left to right, with the first fault.
-use Rattle.std.specs.Prelude.{ℕ, ◌-◌, ◌^◌, Bool, true, ◌&&◌, List, [], ◌∷◌, length, Result, Ok, Err, ◌==◌, if◌then◌else◌}
+use Rattle.std.specs.Prelude.{ℕ, ◌-◌, true, ◌&&◌, List, [], ◌∷◌, length, Ok, Err, ◌==◌, if◌then◌else◌}
 use Rattle.std.specs.Int.{w32, w64}
 use Rattle.st_fields.specs.Spelling.{byte}
-use Rattle.st_fields.specs.Reading.{Read, ◌>>=◌, byte_at, number_at, byte_in, number_in, number_above, positive_at, kind_at, text_at, mark_at, counted_at, whole}
+use Rattle.st_fields.specs.Reading.{Read, ◌>>=◌, byte_at, number_at, byte_in, number_in, number_above, positive_at, kind_at, text_at, mark_at, counted_at}
 use Rattle.st_words.specs.declared.value.Update.{Update}
 use Rattle.st_words.specs.declared.value.Value.{Value}
 use Rattle.st_words.specs.declared.value.Value.TheVariants as values
@@ -17,6 +17,7 @@ use Rattle.st_words.specs.Kind.{kind_number}
 use Rattle.st_words.specs.Ranges.{most_text, most_items, most_base, no_limit, after_item, limits_above}
 use Rattle.st_words.specs.Spelling.{statement_mark}
 
+-- an update's fields
 unfoldable pub update_fields_at : List ℕ → Read Update
 update_fields_at bytes =
     byte_at bytes >>= λ client rest.
@@ -24,9 +25,11 @@ update_fields_at bytes =
     text_at 0 most_text rest >>= λ op rest.
     Ok (record { client = record { 0 = client }; time = time; op = op }, rest)
 
+-- a value that is an update
 unfoldable pub update_at : List ℕ → Read Update
 update_at bytes = mark_at (byte 1) bytes >>= λ _ rest. update_fields_at rest
 
+-- a value
 unfoldable pub value_at : List ℕ → Read Value
 value_at bytes =
     byte_in 0 1 bytes >>= λ mark rest.
@@ -34,6 +37,7 @@ value_at bytes =
     update_fields_at rest >>= λ u rest.
     Ok (values.Update u, rest)
 
+-- an item within the limits
 unfoldable pub item_at : ItemLimits → List ℕ → Read Item
 item_at limits bytes =
     number_above w32 limits.after limits.most bytes >>= λ n rest.
@@ -42,11 +46,13 @@ item_at limits bytes =
     value_at rest >>= λ v rest.
     Ok (record { number = record { 0 = n }; view = record { 0 = view }; local = record { 0 = local }; value = v }, rest)
 
+-- items behind their number, the first within the limits, and their numbers rising
 unfoldable pub items_at : ItemLimits → List ℕ → Read (List Item)
 items_at limits = counted_at 0 most_items item_at after_item limits
 
 -- ---- the fields behind each kind
 
+-- a Prepare's fields
 unfoldable pub prepare_at : List ℕ → Read Statement
 prepare_at bytes =
     byte_at bytes >>= λ site rest.
@@ -56,6 +62,7 @@ prepare_at bytes =
     value_at rest >>= λ v rest.
     Ok (Prepare (record { 0 = site }) (record { 0 = view }) (record { 0 = local }) (record { 0 = n }) v, rest)
 
+-- a Proposal's fields
 unfoldable pub proposal_at : List ℕ → Read Statement
 proposal_at bytes =
     byte_at bytes >>= λ site rest.
@@ -65,6 +72,7 @@ proposal_at bytes =
     value_at rest >>= λ v rest.
     Ok (Proposal (record { 0 = site }) (record { 0 = view }) (record { 0 = local }) (record { 0 = n }) v, rest)
 
+-- an Accept's fields
 unfoldable pub accept_at : List ℕ → Read Statement
 accept_at bytes =
     byte_at bytes >>= λ site rest.
@@ -73,12 +81,14 @@ accept_at bytes =
     value_at rest >>= λ v rest.
     Ok (Accept (record { 0 = site }) (record { 0 = view }) (record { 0 = n }) v, rest)
 
+-- a LocalVc's fields
 unfoldable pub local_vc_at : List ℕ → Read Statement
 local_vc_at bytes =
     byte_at bytes >>= λ site rest.
     positive_at rest >>= λ local rest.
     Ok (LocalVc (record { 0 = site }) (record { 0 = local }), rest)
 
+-- a GlobalVc's fields
 unfoldable pub global_vc_at : List ℕ → Read Statement
 global_vc_at bytes =
     byte_at bytes >>= λ site rest.
@@ -106,6 +116,7 @@ global_report_at bounds bytes =
     items_at (limits_above base (view - 1) no_limit) rest >>= λ items rest.
     Ok (GlobalReport (record { 0 = site }) (record { 0 = view }) index base items, rest)
 
+-- a LocalUnion's fields
 unfoldable pub local_union_at : List ℕ → Read Statement
 local_union_at bytes =
     byte_at bytes >>= λ site rest.
@@ -115,6 +126,7 @@ local_union_at bytes =
     items_at (limits_above base greatest no_limit) rest >>= λ items rest.
     Ok (LocalUnion (record { 0 = site }) (record { 0 = local }) (record { 0 = greatest }) base items, rest)
 
+-- a GlobalUnion's fields
 unfoldable pub global_union_at : List ℕ → Read Statement
 global_union_at bytes =
     byte_at bytes >>= λ site rest.
@@ -123,6 +135,7 @@ global_union_at bytes =
     items_at (limits_above base (view - 1) no_limit) rest >>= λ items rest.
     Ok (GlobalUnion (record { 0 = site }) (record { 0 = view }) base items, rest)
 
+-- a Reply's fields
 unfoldable pub reply_at : List ℕ → Read Statement
 reply_at bytes =
     byte_at bytes >>= λ site rest.
@@ -132,6 +145,7 @@ reply_at bytes =
     text_at 0 most_text rest >>= λ outcome rest.
     Ok (Reply (record { 0 = site }) (record { 0 = client }) time (record { 0 = n }) outcome, rest)
 
+-- a ClientUpdate's fields
 unfoldable pub client_update_at : List ℕ → Read Statement
 client_update_at bytes =
     mark_at (byte 255) bytes >>= λ _ rest.
@@ -144,6 +158,7 @@ client_update_at bytes =
 abbrev pub any_report : ReportBounds
 any_report = record { local = true; global = true; least_site = 0; most_site = 255; after_view = 0; most_view = no_limit; least_index = 0 }
 
+-- the fields behind a kind
 abbrev pub fields_at : StatementKind → List ℕ → Read Statement
 fields_at kinds.Prepare = prepare_at
 fields_at kinds.Proposal = proposal_at
@@ -169,6 +184,7 @@ report_at bounds bytes =
     if bounds.global && (kind == kind_number kinds.GlobalReport) then global_report_at bounds rest else
     Err (length bytes)
 
+-- every kind
 abbrev pub all_kinds : List StatementKind
 all_kinds = kinds.Prepare ∷ kinds.Proposal ∷ kinds.Accept ∷ kinds.LocalVc ∷ kinds.GlobalVc ∷ kinds.LocalReport ∷ kinds.GlobalReport ∷ kinds.LocalUnion ∷ kinds.GlobalUnion ∷ kinds.Reply ∷ kinds.ClientUpdate ∷ []
 

@@ -18,13 +18,16 @@ update_fields u = joined (byte u.client.0 ∷ number w32 u.time ∷ text u.op �
 unfoldable pub update_spelling : Update → List ℕ
 update_spelling u = joined (byte 1 ∷ update_fields u ∷ [])
 
+-- a value: no-op, or an update
 unfoldable pub value_spelling : Value → List ℕ
 value_spelling values.Noop = byte 0
 value_spelling (values.Update u) = update_spelling u
 
+-- an item
 unfoldable pub item_spelling : Item → List ℕ
 item_spelling i = joined (number w32 i.number.0 ∷ number w32 i.view.0 ∷ number w32 i.local.0 ∷ value_spelling i.value ∷ [])
 
+-- items behind their number
 unfoldable pub items_spelling : List Item → List ℕ
 items_spelling items = counted item_spelling items
 

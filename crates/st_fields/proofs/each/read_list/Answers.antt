@@ -1,7 +1,6 @@
 -- Each step of the loop is a step of the reading.
-use Rattle.std.proofs.Common.{◌≡◌, ◌++◌, ◌∷◌, [], Ok, sym, ap, ◌∙◌}
+use Rattle.std.proofs.Common.{Ok, sym, ap, ◌∙◌}
 use Rattle.std.proofs.lemmas.Result.{err_from_is_err_and}
-use Rattle.st_fields.specs.Reading.{list_at}
 use Rattle.st_fields.proofs.Loop.{goes_on, ends, is_done}
 use Rattle.st_fields.proofs.each.read_list.Goals as goal
 
