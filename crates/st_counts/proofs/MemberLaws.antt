@@ -22,6 +22,7 @@ has-left x [] ys among = absurd among
 has-left x (y ∷ xs) ys (inl e) = inl e
 has-left x (y ∷ xs) ys (inr among) = inr (has-left x xs ys among)
 
+-- and lists that end with it
 pub has-right : {X : Type 0} (x : X) (xs ys : List X) → Has x ys → Has x (xs ++ ys)
 has-right x [] ys among = among
 has-right x (y ∷ xs) ys among = inr (has-right x xs ys among)
@@ -101,6 +102,7 @@ record Without {X : Type 0} (x : X) (xs : List X) : Type 0 where
   counts : (p : X → Bool) → count p xs ≡ one_if (p x) + count p others
   keeps : (y : X) → ¬ (y ≡ x) → Has y xs → Has y others
 
+-- any list that has the element has such a rest
 without : {X : Type 0} (x : X) (xs : List X) → Has x xs → Without x xs
 without x [] among = absurd among
 without x (y ∷ ys) (inl e) =
@@ -141,6 +143,7 @@ has-numbers_below k (suc m) h =
     (λ above. has-right k (numbers_below m) (m ∷ []) (inl (omega arith)))
     (cases_lt k m)
 
+-- and no others
 pub numbers_below-lt : (k m : ℕ) → Has k (numbers_below m) → k < m
 numbers_below-lt k zero among = absurd among
 numbers_below-lt k (suc m) among =

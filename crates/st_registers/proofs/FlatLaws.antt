@@ -80,6 +80,7 @@ proposal-keeps_accepted old new view number v sets m h u =
     (λ other. ap accepted (views-kept old new view number sets.keeps h other))
     (cases_eq h view)
 
+-- nor is one closed or opened
 proposal-keeps_closed : (old new : Table) (view number : ℕ) (v : Value) → SetsProposal old new view number v → (m h : ℕ) → is_closed (register_in (slot_at new h number) m) ≡ is_closed (register_in (slot_at old h number) m)
 proposal-keeps_closed old new view number v sets m h =
     ⊎_elim
@@ -246,10 +247,12 @@ close-step old new member view number sets log unwritten =
 
 -- ---- a pair is put into the log
 
+-- a test or nothing
 or_false : (b : Bool) → (b || false) ≡ b
 or_false true = refl
 or_false false = refl
 
+-- a test or one that fails
 or_fails : (a b : Bool) → b ≡ false → (a || b) ≡ a
 or_fails a b fails = ap (λ x. a || x) fails ∙ or_false a
 
@@ -383,5 +386,6 @@ written-from world member view number Accepted is backed written unwritten =
     unwritten.not_accepted value.0 (and_from _ _ value.1 (ap is_accepted is))
 written-from world member view number Closed is backed written unwritten = unwritten.not_closed (ap is_closed is)
 
+-- the same, of a register that was read
 pub written-not_unwritten : (world : FlatWorld) (member view number : ℕ) (register : Register) → register ≡ register_in (slot_at world.table view number) member → (IsTrue (is_accepted register) → IsSome (proposed_in (slot_at world.table view number))) → ¬ (register ≡ Unwritten) → ¬ IsUnwritten (tests_of world number) member view
 written-not_unwritten world member view number register same backed written = written-from world member view number register (sym same) backed written

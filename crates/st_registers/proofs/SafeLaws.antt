@@ -207,6 +207,7 @@ backed-in : (members : ℕ) (member : ℕ) (o : Option Slot) → ((s : Slot) →
 backed-in members member None full accepted = absurd (let no : false ≡ true = accepted in cc)
 backed-in members member (Some s) full accepted = (full s refl).backed member accepted
 
+-- the same, of a register that was read from a table
 pub backed-at : (table : Table) (member view number : ℕ) (register : Register) → IsTable table → register ≡ register_in (slot_at table view number) member → IsTrue (is_accepted register) → IsSome (proposed_in (slot_at table view number))
 backed-at table member view number register is_table same accepted =
     backed-in table.members member (slot_at table view number) (λ s at. full-found table view number s is_table at) (sym (ap is_accepted same) ∙ accepted)

@@ -23,6 +23,7 @@ is_at-true view number s at =
     let parts = and_parts _ _ at in
     (eqb-true _ _ parts.0, eqb-true _ _ parts.1)
 
+-- the view and number are its place
 pub is_at-from : (view number : ℕ) (s : Slot) → s.view ≡ view → s.number ≡ number → IsTrue (is_at view number s)
 is_at-from view number s v n = and_from _ _ (eq-eqb _ _ v) (eq-eqb _ _ n)
 
@@ -40,9 +41,11 @@ position-cases p xs true e k found =
     (sym same, omega arith)
 position-cases p xs false e k found = absurd (let no : None ≡ Some k = found in cc)
 
+-- a position that is found is the first, and within the list
 pub position-found : {X : Type 0} (p : X → Bool) (xs : List X) (k : ℕ) → position p xs ≡ Some k → (k ≡ position_or_len p xs) × (k < length xs)
 position-found p xs k found = position-cases p xs _ refl k found
 
+-- where there is no position nothing is found
 pub position_none : {X : Type 0} (p : X → Bool) (xs : List X) → position p xs ≡ None → find p xs ≡ None
 position_none p xs none =
     ⊎_elim
@@ -101,12 +104,14 @@ lookup-other None false s other = refl
 lookup-here : (o : Option Slot) (b : Bool) (s : Slot) → o ≡ None → b ≡ true → option_or o (cond b (Some s) None) ≡ Some s
 lookup-here o b s none here = subst (λ x. option_or x (cond b (Some s) None) ≡ Some s) (sym none) (ap (λ c. cond c (Some s) None) here)
 
+-- the slot that was added is found
 pub added-here : (table : Table) (view number : ℕ) → slot_at table view number ≡ None → slot_at (added table view number) view number ≡ Some (unwritten table.members view number)
 added-here table view number none =
     let new : Slot = unwritten table.members view number in
     find-append (is_at view number) table.slots (new ∷ [])
     ∙ lookup-here (slot_at table view number) (is_at view number new) new none (is_at-from view number new refl refl)
 
+-- and all others as before
 pub added-keeps : (table : Table) (view number : ℕ) → KeepsOthers table (added table view number) view number
 added-keeps table view number =
     let new : Slot = unwritten table.members view number in
@@ -179,6 +184,7 @@ pub record Changes (old new : Table) (view number : ℕ) (x y : Slot) : Type 0 w
   pub keeps : KeepsOthers old new view number
   pub table : IsTable new
 
+-- a full slot of the same view and number may stand in the place of another
 pub place-changes : (table : Table) (view number place : ℕ) (x y : Slot) → IsTable table → IsPlace table view number place → slice_get table.slots place ≡ Some x → y.view ≡ x.view → y.number ≡ x.number → IsFull table.members y → Changes table (changed table place y) view number x y
 place-changes table view number place x y is_table is_place here same_view same_number full =
     let at_x : IsTrue (is_at view number x) = place-is_at table view number place x is_place here in
@@ -219,6 +225,7 @@ changes-after old mid new view number x y first second =
 
 -- ---- a value is proposed
 
+-- the slot with the value proposed
 abbrev pub with_proposed : Slot → Value → Slot
 with_proposed x v = record x { proposed = Some v }
 
@@ -235,6 +242,7 @@ unbacked members x m full none =
     false_from_ne_true _ (λ accepted. let backed : is_some x.proposed ≡ true = full.backed m accepted in
     let unbacked : is_some x.proposed ≡ false = ap is_some none in cc)
 
+-- and what it says
 pub proposal-sets : (old mid : Table) (view number place : ℕ) (x : Slot) (v : Value) → IsTable mid → Places old mid view number place → slice_get mid.slots place ≡ Some x → proposed_in (slot_at old view number) ≡ None → SetsProposal old (changed mid place (with_proposed x v)) view number v
 proposal-sets old mid view number place x v is_table places here none =
     let change : Changes mid (changed mid place (with_proposed x v)) view number x (with_proposed x v) = proposal-changes old mid view number place x v is_table places here in
@@ -250,9 +258,11 @@ proposal-sets old mid view number place x v is_table places here none =
 
 -- ---- a register is written
 
+-- the slot with the member's register written
 abbrev pub with_register : Slot → ℕ → Register → Slot
 with_register x member register = record x { registers = slice_set x.registers member register }
 
+-- it stays full, where an accepted register has a value behind it
 pub register-full : (members member : ℕ) (x : Slot) (register : Register) → member < members → IsFull members x → (IsTrue (is_accepted register) → IsSome x.proposed) → IsFull members (with_register x member register)
 register-full members member x register within full backed =
     record {
@@ -266,6 +276,7 @@ register-full members member x register within full backed =
           (cases_eq m member);
     }
 
+-- the table in which it is
 pub register-changes : (old mid : Table) (member view number place : ℕ) (x : Slot) (register : Register) → IsTable mid → Places old mid view number place → slice_get mid.slots place ≡ Some x → member < old.members → (IsTrue (is_accepted register) → IsSome (proposed_in (slot_at old view number))) → Changes mid (changed mid place (with_register x member register)) view number x (with_register x member register)
 register-changes old mid member view number place x register is_table places here within backed =
     let full : IsFull mid.members x = full-at mid place x is_table here in
@@ -275,6 +286,7 @@ register-changes old mid member view number place x register is_table places her
     place-changes mid view number place x (with_register x member register) is_table places.is_place here refl refl
     (register-full mid.members member x register within_mid full (λ accepted. subst (λ o. IsSome o) same (backed accepted)))
 
+-- and what it says
 pub register-sets : (old mid : Table) (member view number place : ℕ) (x : Slot) (register : Register) → IsTable mid → Places old mid view number place → slice_get mid.slots place ≡ Some x → member < old.members → (IsTrue (is_accepted register) → IsSome (proposed_in (slot_at old view number))) → SetsRegister old (changed mid place (with_register x member register)) member view number register
 register-sets old mid member view number place x register is_table places here within backed =
     let y : Slot = with_register x member register in

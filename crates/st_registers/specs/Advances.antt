@@ -1,4 +1,4 @@
--- What any number of flat steps leaves, without the steps: tests only grow, and are well.
+-- What flat steps keep, whichever they are: tests only grow, and are well.
 use Rattle.std.specs.Prelude.{◌≡◌, ℕ, IsTrue}
 use Rattle.st_counts.specs.Counts.{Has}
 use Rattle.st_registers.specs.Tests.{Tests, Safe, IsChosen}
@@ -19,8 +19,8 @@ pub record Grows {V : Type 0} (old new : Tests V) : Type 0 where
   pub closed : (m view : ℕ) → Has m old.members → IsTrue (old.closed m view) → IsTrue (new.closed m view)
   pub logged : (v : V) → IsTrue (old.logged v) → IsTrue (new.logged v)
 
--- The new tests come from the old by flat steps: closings first, then proposals by rising view,
--- acceptances and orders. So a written register never changes, and each new proposal is safe.
+-- What any list of flat steps leaves of a well world, said without the list: nothing is lost and all is
+-- well. So a register that was written never changes, and each new proposal is safe.
 pub record Advances {V : Type 0} (old new : Tests V) : Type 0 where
   pub grows : Grows old new
   pub well : IsWell new

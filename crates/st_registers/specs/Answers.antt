@@ -27,6 +27,7 @@ IsProposed {V} t view = (v : V) × IsTrue (t.proposed view v)
 abbrev pub IsChosenIn : {V : Type 0} → Tests V → ℕ → Type 0
 IsChosenIn {V} t view = (v : V) × HasMajority t.members (λ m. t.accepted m view v)
 
+-- a proposal: taken first, then unsafe
 abbrev pub ProposeAnswers : {V : Type 0} → Tests V → ℕ → V → Result (Unit {0}) FlatError → Type 0
 ProposeAnswers t view v (Ok _) = (¬ IsTaken t view v) × Safe t view v
 ProposeAnswers t view v (Err Taken) = IsTaken t view v
@@ -34,6 +35,7 @@ ProposeAnswers t view v (Err Unsafe) = (¬ IsTaken t view v) × IsUnsafe t view 
 ProposeAnswers t view v (Err OutOfMemory) = Unit {0}
 ProposeAnswers t view v (Err _) = ⊥
 
+-- an acceptance: not proposed first, then written
 abbrev pub AcceptAnswers : {V : Type 0} → Tests V → ℕ → ℕ → Result (Unit {0}) FlatError → Type 0
 AcceptAnswers t member view (Ok _) = IsProposed t view × IsUnwritten t member view
 AcceptAnswers t member view (Err NotProposed) = ¬ IsProposed t view
@@ -41,12 +43,14 @@ AcceptAnswers t member view (Err Written) = IsProposed t view × (¬ IsUnwritten
 AcceptAnswers t member view (Err OutOfMemory) = Unit {0}
 AcceptAnswers t member view (Err _) = ⊥
 
+-- a closing: written
 abbrev pub CloseAnswers : {V : Type 0} → Tests V → ℕ → ℕ → Result (Unit {0}) FlatError → Type 0
 CloseAnswers t member view (Ok _) = IsUnwritten t member view
 CloseAnswers t member view (Err Written) = ¬ IsUnwritten t member view
 CloseAnswers t member view (Err OutOfMemory) = Unit {0}
 CloseAnswers t member view (Err _) = ⊥
 
+-- an order: no majority
 abbrev pub OrderAnswers : {V : Type 0} → Tests V → ℕ → Result (Unit {0}) FlatError → Type 0
 OrderAnswers t view (Ok _) = IsChosenIn t view
 OrderAnswers t view (Err NoMajority) = ¬ IsChosenIn t view

@@ -21,10 +21,12 @@ abbrev pub is_value : Value → Option Value → Bool
 is_value v None = false
 is_value v (Some u) = value_eq u v
 
+-- the register is accepted
 abbrev pub is_accepted : Register → Bool
 is_accepted Accepted = true
 is_accepted _ = false
 
+-- the register is closed
 abbrev pub is_closed : Register → Bool
 is_closed Closed = true
 is_closed _ = false

@@ -124,9 +124,9 @@ impl Flat {
         Ok(())
     }
 
-    #[tactic(auto, using(crate::proofs::FlatLaws::sound_one_value))]
     /// Puts the value that a majority has accepted in the view at the number into the log. NoMajority
     /// where there is none. A value that the log has already stays there once.
+    #[tactic(auto, using(crate::proofs::FlatLaws::sound_one_value))]
     pub fn order(&mut self, alloc: Global, number: u32, view: u32) -> Result<(), FlatError>
         ensures answer { OrderAnswers (tests_of self.old number) view result }
         ensures step { OnOk result
