@@ -79,6 +79,13 @@ any-found {X} p (y ∷ ys) passes =
     let there : Found p (y ∷ ys) = record { element = rest.element; among = inr rest.among; passes = rest.passes } in there)
     (or_cases (p y) (list_any p ys) passes)
 
+-- where some element passes, and what passes passes another test over another list, some passes there
+pub any-mono : {X : Type 0} (p q : X → Bool) (xs ys : List X) → ((x : X) → Has x xs → IsTrue (p x) → Has x ys × IsTrue (q x)) → IsTrue (list_any p xs) → IsTrue (list_any q ys)
+any-mono {X} p q xs ys follows passes =
+    let some : Found p xs = any-found p xs passes in
+    let there : Has some.element ys × IsTrue (q some.element) = follows some.element some.among some.passes in
+    any-from q some.element ys there.0 there.1
+
 -- an image is the image of an element
 pub map-has : {X Y : Type 0} (f : X → Y) (y : Y) (xs : List X) → Has y (map f xs) → (x : X) × (Has x xs × (f x ≡ y))
 map-has f y [] among = absurd among
