@@ -1,5 +1,5 @@
 -- Laws on how many elements pass a test.
-use Rattle.std.proofs.Common.{◌≡◌, ℕ, ◌+◌, ◌≤◌, ◌<◌, Bool, true, false, cond, not, ◌&&◌, ◌||◌, IsTrue, List, [], ◌∷◌, ◌++◌, length, filter, refl, inl, inr, arith}
+use Rattle.std.proofs.Common.{◌≡◌, ℕ, ◌+◌, ◌≤◌, ◌<◌, Bool, true, false, cond, not, ◌&&◌, ◌||◌, IsTrue, List, [], ◌∷◌, ◌++◌, length, filter, refl, sym, subst, inl, inr, arith}
 use Rattle.std.specs.Prelude.{count_by}
 use Rattle.std.proofs.lemmas.List.Recursion.{is_count_by}
 use Rattle.st_counts.specs.Counts.{one_if, count, Has, Found}
@@ -13,6 +13,11 @@ one_if-le false = omega arith
 pub one_if-true : (b : Bool) → IsTrue b → one_if b ≡ 1
 one_if-true true t = refl
 one_if-true false t = cc
+
+-- what counts one passes
+pub one_if-passes : (b : Bool) → 1 ≤ one_if b → IsTrue b
+one_if-passes true h = refl
+one_if-passes false h = absurd (omega arith)
 
 -- where one test follows from another it counts no less
 pub one_if-mono : (a b : Bool) → (IsTrue a → IsTrue b) → one_if a ≤ one_if b
@@ -92,6 +97,20 @@ count-all p [] h = refl
 count-all p (x ∷ xs) h =
     omega (arith, one_if-true (p x) (h x (inl refl)), count-all p xs (λ y among. h y (inr among)))
 
+-- where none passes, none is counted
+pub count-none : {X : Type 0} (p : X → Bool) (xs : List X) → ((x : X) → Has x xs → ¬ IsTrue (p x)) → count p xs ≡ 0
+count-none p [] h = refl
+count-none p (x ∷ xs) h =
+    omega (arith, one_if-disjoint (p x) true (λ passes t. h x (inl refl) passes), count-none p xs (λ y among. h y (inr among)))
+
+-- where as many pass as there are, each passes
+pub count-full : {X : Type 0} (p : X → Bool) (xs : List X) → length xs ≤ count p xs → (x : X) → Has x xs → IsTrue (p x)
+count-full p [] all x among = absurd among
+count-full p (y ∷ ys) all x (inl same) =
+    subst (λ z. IsTrue (p z)) (sym same) (one_if-passes (p y) (omega (arith, count-le p ys)))
+count-full p (y ∷ ys) all x (inr among) =
+    count-full p ys (omega (arith, one_if-le (p y))) x among
+
 -- a count of what a filter keeps
 pub count-filter : {X : Type 0} (p q : X → Bool) (xs : List X) → count p (filter q xs) ≡ count (λ x. q x && p x) xs
 count-filter p q [] = refl
@@ -123,8 +142,8 @@ found p [] h = absurd (omega arith)
 found p (x ∷ xs) h = found_by p x xs (p x) refl (found p xs) h
 
 -- the count is that of std, which code's chains of iterators answer
-pub count-is : {X : Type 0} (p : X → Bool) (xs : List X) → count p xs ≡ count_by p xs
-count-is {X} p xs = is_count_by (count p) p refl (λ x ys. one_more (p x) (count p ys)) xs
+pub count_is_count_by : {X : Type 0} (p : X → Bool) (xs : List X) → count p xs ≡ count_by p xs
+count_is_count_by {X} p xs = is_count_by (count p) p refl (λ x ys. one_more (p x) (count p ys)) xs
   where
     one_more : (b : Bool) (n : ℕ) → one_if b + n ≡ cond b (1 + n) n
     one_more true n = refl

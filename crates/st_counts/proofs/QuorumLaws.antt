@@ -59,7 +59,7 @@ quorum-stands {X} f is_correct did servers signers distinct within many honest =
       count-filter did is_correct servers,
     )
 
--- distinct members that pass, one more than half of all, are a majority
-pub sites-majority : {X : Type 0} (p : X → Bool) (members signers : List X) → Distinct signers → ((s : X) → Has s signers → Has s members) → length signers ≡ length members / 2 + 1 → ((s : X) → Has s signers → IsTrue (p s)) → HasMajority members p
+-- distinct members that pass, at least one more than half of all, are a majority
+pub sites-majority : {X : Type 0} (p : X → Bool) (members signers : List X) → Distinct signers → ((s : X) → Has s signers → Has s members) → length members / 2 + 1 ≤ length signers → ((s : X) → Has s signers → IsTrue (p s)) → HasMajority members p
 sites-majority p members signers distinct within many pass =
     omega (arith, distinct-le-count p signers members distinct within pass)

@@ -1,5 +1,5 @@
 -- Each is a law on counts.
-use Rattle.st_counts.proofs.CountLaws.{found, count-mono, count-disjoint, count-both, count-filter, count-is}
+use Rattle.st_counts.proofs.CountLaws.{found, count-mono, count-disjoint, count-both, count-filter, count_is_count_by}
 use Rattle.st_counts.proofs.MemberLaws.{AllOf-at}
 use Rattle.st_counts.proofs.counting.Goals as goal
 
@@ -19,4 +19,4 @@ pub returns-clause-filtered : goal.returns-clause-filtered
 returns-clause-filtered g c = λ p q xs. count-filter p q xs
 
 pub returns-clause-as_std : goal.returns-clause-as_std
-returns-clause-as_std g c = λ p xs. count-is p xs
+returns-clause-as_std g c = λ p xs. count_is_count_by p xs
