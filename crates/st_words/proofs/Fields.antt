@@ -1,5 +1,5 @@
 -- Updates, values and items as fields: what is read is spelled so, and what is spelled so is read.
-use Rattle.std.proofs.Common.{◌≡◌, ℕ, eqb, List, [], ◌∷◌, ◌++◌, Ok, refl, ap, subst, ◌∙◌, arith, inl, inr, lit<}
+use Rattle.std.proofs.Common.{◌≡◌, ℕ, ◌^◌, ◌<◌, Option, Some, None, eqb, List, [], ◌∷◌, ◌++◌, Ok, refl, ap, subst, ◌∙◌, arith, inl, inr, lit<}
 use Rattle.std.specs.Int.{w32}
 use Rattle.std.specs.Prelude.{All}
 use Rattle.std.proofs.lemmas.Bool.{eqb-true, eqb-false}
@@ -7,16 +7,16 @@ use Rattle.std.proofs.lemmas.List.Elements.{All-nil, All-cons, All-head, All-tai
 use Rattle.st_fields.specs.Spelling.{byte, number, text, KeepsEach}
 use Rattle.st_fields.specs.Reading.{◌>>=◌}
 use Rattle.st_fields.proofs.Fields.{Takes, IsField, ok_is, chosen, step, again_step, ◌▷◌, none, joined-append, kept_by}
-use Rattle.st_fields.proofs.Leaves.{byte_field, byte_in_field, u32_in_field, u32_above_field, positive_field, text_field, mark_field}
+use Rattle.st_fields.proofs.Leaves.{byte_field, byte_in_field, u32_field, u32_in_field, u32_above_field, positive_field, text_field, mark_field}
 use Rattle.st_fields.proofs.Lists.{counted_field}
 use Rattle.st_words.specs.declared.value.Update.{Update}
 use Rattle.st_words.specs.declared.value.Value.{Value}
 use Rattle.st_words.specs.declared.value.Value.TheVariants as values
 use Rattle.st_words.specs.declared.statement.Item.{Item}
 use Rattle.st_words.specs.declared.limits.ItemLimits.{ItemLimits}
-use Rattle.st_words.specs.Ranges.{most_text, most_items, KeepsUpdate, KeepsValue, KeepsItem, KeepsItems, after_item, FitsUpdate, FitsValue, FitsItem}
+use Rattle.st_words.specs.Ranges.{most_text, most_items, KeepsUpdate, KeepsValue, KeepsLimit, KeepsItem, KeepsItems, after_item, FitsUpdate, FitsValue, FitsItem}
 use Rattle.st_words.specs.Spelling.{update_fields, update_spelling, value_spelling, item_spelling, items_spelling}
-use Rattle.st_words.specs.Reading.{update_fields_at, update_at, value_at, item_at, items_at}
+use Rattle.st_words.specs.Reading.{update_fields_at, update_at, value_at, limited_at, item_at, items_at}
 
 -- an update's fields
 pub update_fields_field : IsField update_fields_at update_fields (λ u. KeepsUpdate u × FitsUpdate u)
@@ -76,6 +76,12 @@ value_field = record {
         ∙ again_step (byte_in_field 0 1) _ _ 1 (omega arith, (omega arith, omega arith))
         (again_step update_fields_field _ _ u k refl)
 
+-- a number of four bytes, at most a limit where there is one
+pub limited_field : (limit : Option ℕ) → IsField (limited_at limit) (number w32) (λ n. (n < 2 ^ 32) × KeepsLimit limit n)
+unfolding limited_at
+limited_field None = kept_by u32_field (λ n lt. (lt, tt)) (λ n keeps. keeps.0)
+limited_field (Some most) = kept_by (u32_in_field 0 most) (λ n keeps. (keeps.0, keeps.1.1)) (λ n keeps. (keeps.0, (omega arith, keeps.1)))
+
 -- an item within limits
 pub item_field : (limits : ItemLimits) → IsField (item_at limits) item_spelling (λ i. KeepsItem limits i × FitsItem i)
 unfolding item_at item_spelling
@@ -83,15 +89,15 @@ item_field limits = record {
   takes = λ bytes i rest fits e.
       step (u32_above_field limits.after limits.most) bytes (i, rest) fits e λ n r0 t0 k0 e0.
       step (u32_in_field 0 limits.most_view) r0 (i, rest) t0.rest_fits e0 λ view r1 t1 k1 e1.
-      step (u32_in_field 0 limits.most_local) r1 (i, rest) t1.rest_fits e1 λ local r2 t2 k2 e2.
+      step (limited_field limits.most_local) r1 (i, rest) t1.rest_fits e1 λ local r2 t2 k2 e2.
       step value_field r2 (i, rest) t2.rest_fits e2 λ v r3 t3 k3 e3.
       subst (λ (p : Item × List ℕ). Takes bytes (item_spelling p.0) p.1 × (KeepsItem limits p.0 × FitsItem p.0)) (ok_is _ (i, rest) e3)
-      (t0 ▷ (t1 ▷ (t2 ▷ (t3 ▷ none t3.rest_fits))), ((k0.1, k0.2, k1.1.1, k2.1.1, k3.0), (k0.0, k1.0, k2.0, k3.1)));
+      (t0 ▷ (t1 ▷ (t2 ▷ (t3 ▷ none t3.rest_fits))), ((k0.1, k0.2, k1.1.1, k2.1, k3.0), (k0.0, k1.0, k2.0, k3.1)));
   again = λ i rest k.
       ap (item_at limits) (joined-append (number w32 i.number.0 ∷ number w32 i.view.0 ∷ number w32 i.local.0 ∷ value_spelling i.value ∷ []) rest)
       ∙ (again_step (u32_above_field limits.after limits.most) _ _ i.number.0 (k.1.0, k.0.0, k.0.1)
       (again_step (u32_in_field 0 limits.most_view) _ _ i.view.0 (k.1.1, (omega arith, k.0.2))
-      (again_step (u32_in_field 0 limits.most_local) _ _ i.local.0 (k.1.2, (omega arith, k.0.3))
+      (again_step (limited_field limits.most_local) _ _ i.local.0 (k.1.2, k.0.3)
       (again_step value_field _ _ i.value (k.0.4, k.1.3) refl))));
 }
 

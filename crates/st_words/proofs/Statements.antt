@@ -1,5 +1,5 @@
 -- Statements as fields, kind by kind: what is read is spelled so, and what is spelled so is read.
-use Rattle.std.proofs.Common.{◌≡◌, ℕ, ◌-◌, List, [], ◌∷◌, ◌++◌, Ok, refl, sym, ap, subst, ◌∙◌, arith, inl, inr, ◌⊎◌, lit<}
+use Rattle.std.proofs.Common.{◌≡◌, ℕ, ◌-◌, Some, None, List, [], ◌∷◌, ◌++◌, Ok, refl, sym, ap, subst, ◌∙◌, arith, inl, inr, ◌⊎◌, lit<}
 use Rattle.std.specs.Int.{w32}
 use Rattle.std.specs.Prelude.{IsTrue}
 use Rattle.st_fields.specs.Spelling.{byte, number, text}
@@ -11,7 +11,7 @@ use Rattle.st_words.specs.declared.statement.Statement.{Statement}
 use Rattle.st_words.specs.declared.statement.Statement.TheVariants.{Prepare, Proposal, Accept, LocalVc, GlobalVc, LocalReport, GlobalReport, LocalUnion, GlobalUnion, Reply, ClientUpdate}
 use Rattle.st_words.specs.declared.limits.ReportBounds.{ReportBounds}
 use Rattle.st_words.specs.Kind.{kind_of}
-use Rattle.st_words.specs.Ranges.{most_text, most_base, no_limit, limits_above, KeepsStatement, KeepsBounds, FitsStatement}
+use Rattle.st_words.specs.Ranges.{most_text, most_base, limits_above, KeepsStatement, KeepsBounds, FitsStatement}
 use Rattle.st_words.specs.Spelling.{fields_spelling, value_spelling, items_spelling, update_spelling}
 use Rattle.st_words.specs.Reading.{prepare_at, proposal_at, accept_at, local_vc_at, global_vc_at, local_report_at, global_report_at, local_union_at, global_union_at, reply_at, client_update_at, any_report, fields_at}
 use Rattle.st_words.proofs.Fields.{update_field, value_field, items_field}
@@ -86,7 +86,7 @@ local_report_takes bounds allowed bytes s rest fits e =
     step (byte_in_field bounds.least_index 255) r1 (s, rest) t1.rest_fits e1 λ index r2 t2 k2 e2.
     step u32_field r2 (s, rest) t2.rest_fits e2 λ view r3 t3 k3 e3.
     step (u32_in_field 0 most_base) r3 (s, rest) t3.rest_fits e3 λ base r4 t4 k4 e4.
-    step (items_field (limits_above base view (local - 1))) r4 (s, rest) t4.rest_fits e4 λ items r5 t5 k5 e5.
+    step (items_field (limits_above base view (Some (local - 1)))) r4 (s, rest) t4.rest_fits e4 λ items r5 t5 k5 e5.
     subst (λ (p : Statement × List ℕ). IsRead kinds.LocalReport bytes p × KeepsBounds bounds p.0) (ok_is _ (s, rest) e5) (
       (t0 ▷ (t1 ▷ (t2 ▷ (t3 ▷ (t4 ▷ (t5 ▷ none t5.rest_fits))))), (refl, ((omega arith, k4.1.1, k5.0), (k0.0, k1.0, k2.0, k3, k4.0, k5.1)))),
       (allowed, k0.1, k1.1, k1.2, k2.1.0),
@@ -100,7 +100,7 @@ global_report_takes bounds allowed bytes s rest fits e =
     step (u32_above_field bounds.after_view bounds.most_view) r0 (s, rest) t0.rest_fits e0 λ view r1 t1 k1 e1.
     step (byte_in_field bounds.least_index 255) r1 (s, rest) t1.rest_fits e1 λ index r2 t2 k2 e2.
     step (u32_in_field 0 most_base) r2 (s, rest) t2.rest_fits e2 λ base r3 t3 k3 e3.
-    step (items_field (limits_above base (view - 1) no_limit)) r3 (s, rest) t3.rest_fits e3 λ items r4 t4 k4 e4.
+    step (items_field (limits_above base (view - 1) None)) r3 (s, rest) t3.rest_fits e3 λ items r4 t4 k4 e4.
     subst (λ (p : Statement × List ℕ). IsRead kinds.GlobalReport bytes p × KeepsBounds bounds p.0) (ok_is _ (s, rest) e4) (
       (t0 ▷ (t1 ▷ (t2 ▷ (t3 ▷ (t4 ▷ none t4.rest_fits)))), (refl, ((omega arith, k3.1.1, k4.0), (k0.0, k1.0, k2.0, k3.0, k4.1)))),
       (allowed, k0.1, k1.1, k1.2, k2.1.0),
@@ -114,7 +114,7 @@ local_union_takes bytes s rest fits e =
     step positive_field r0 (s, rest) t0.rest_fits e0 λ local r1 t1 k1 e1.
     step u32_field r1 (s, rest) t1.rest_fits e1 λ greatest r2 t2 k2 e2.
     step (u32_in_field 0 most_base) r2 (s, rest) t2.rest_fits e2 λ base r3 t3 k3 e3.
-    step (items_field (limits_above base greatest no_limit)) r3 (s, rest) t3.rest_fits e3 λ items r4 t4 k4 e4.
+    step (items_field (limits_above base greatest None)) r3 (s, rest) t3.rest_fits e3 λ items r4 t4 k4 e4.
     subst (IsRead kinds.LocalUnion bytes) (ok_is _ (s, rest) e4)
     (t0 ▷ (t1 ▷ (t2 ▷ (t3 ▷ (t4 ▷ none t4.rest_fits)))), (refl, ((k1.1, k3.1.1, k4.0), (k0, k1.0, k2, k3.0, k4.1))))
 
@@ -125,7 +125,7 @@ global_union_takes bytes s rest fits e =
     step byte_field bytes (s, rest) fits e λ site r0 t0 k0 e0.
     step positive_field r0 (s, rest) t0.rest_fits e0 λ view r1 t1 k1 e1.
     step (u32_in_field 0 most_base) r1 (s, rest) t1.rest_fits e1 λ base r2 t2 k2 e2.
-    step (items_field (limits_above base (view - 1) no_limit)) r2 (s, rest) t2.rest_fits e2 λ items r3 t3 k3 e3.
+    step (items_field (limits_above base (view - 1) None)) r2 (s, rest) t2.rest_fits e2 λ items r3 t3 k3 e3.
     subst (IsRead kinds.GlobalUnion bytes) (ok_is _ (s, rest) e3)
     (t0 ▷ (t1 ▷ (t2 ▷ (t3 ▷ none t3.rest_fits))), (refl, ((k1.1, k2.1.1, k3.0), (k0, k1.0, k2.0, k3.1))))
 
@@ -175,7 +175,7 @@ local_report_again bounds (LocalReport site local index view base items) rest b 
     (again_step (byte_in_field bounds.least_index 255) _ _ index (f.2, (b.4, omega arith))
     (again_step u32_field _ _ view.0 f.3
     (again_step (u32_in_field 0 most_base) _ _ base (f.4, (omega arith, k.1))
-    (again_step (items_field (limits_above base view.0 (local.0 - 1))) _ _ items (k.2, f.5) refl))))))
+    (again_step (items_field (limits_above base view.0 (Some (local.0 - 1)))) _ _ items (k.2, f.5) refl))))))
 local_report_again bounds _ rest b (is, (k, f)) = absurd cc
 
 -- a GlobalReport within bounds
@@ -187,15 +187,15 @@ global_report_again bounds (GlobalReport site view index base items) rest b (is,
     (again_step (u32_above_field bounds.after_view bounds.most_view) _ _ view.0 (f.1, b.2, b.3)
     (again_step (byte_in_field bounds.least_index 255) _ _ index (f.2, (b.4, omega arith))
     (again_step (u32_in_field 0 most_base) _ _ base (f.3, (omega arith, k.1))
-    (again_step (items_field (limits_above base (view.0 - 1) no_limit)) _ _ items (k.2, f.4) refl)))))
+    (again_step (items_field (limits_above base (view.0 - 1) None)) _ _ items (k.2, f.4) refl)))))
 global_report_again bounds _ rest b (is, (k, f)) = absurd cc
 
 -- every report stands within the widest bounds
-any_report_bounds : (s : Statement) (kind : StatementKind) → (kind ≡ kinds.LocalReport) ⊎ (kind ≡ kinds.GlobalReport) → IsKind kind s → KeepsBounds any_report s
-any_report_bounds (LocalReport site local index view base items) kind report (is, (k, f)) = (refl, (omega arith, omega (arith, f.0)), omega (arith, k.0), omega (arith, f.1), omega arith)
-any_report_bounds (GlobalReport site view index base items) kind report (is, (k, f)) = (refl, (omega arith, omega (arith, f.0)), omega (arith, k.0), omega (arith, f.1), omega arith)
-any_report_bounds _ kind (inl local) (is, (k, f)) = absurd cc
-any_report_bounds _ kind (inr global) (is, (k, f)) = absurd cc
+pub any_report_bounds : (s : Statement) → (kind_of s ≡ kinds.LocalReport) ⊎ (kind_of s ≡ kinds.GlobalReport) → KeepsStatement s → FitsStatement s → KeepsBounds any_report s
+any_report_bounds (LocalReport site local index view base items) report k f = (refl, (omega arith, omega (arith, f.0)), omega (arith, k.0), omega (arith, f.1), omega arith)
+any_report_bounds (GlobalReport site view index base items) report k f = (refl, (omega arith, omega (arith, f.0)), omega (arith, k.0), omega (arith, f.1), omega arith)
+any_report_bounds _ (inl local) k f = absurd cc
+any_report_bounds _ (inr global) k f = absurd cc
 
 -- the fields of each kind
 fields_again : (s : Statement) (rest : List ℕ) → KeepsStatement s → FitsStatement s → fields_at (kind_of s) (fields_spelling s ++ rest) ≡ Ok (s, rest)
@@ -230,23 +230,23 @@ fields_again (GlobalVc site view) rest k f =
     (again_step positive_field _ _ view.0 (f.1, k) refl))
 fields_again (LocalReport site local index view base items) rest k f =
     let s = LocalReport site local index view base items in
-    local_report_again any_report s rest (any_report_bounds s kinds.LocalReport (inl refl) (refl, (k, f))) (refl, (k, f))
+    local_report_again any_report s rest (any_report_bounds s (inl refl) k f) (refl, (k, f))
 fields_again (GlobalReport site view index base items) rest k f =
     let s = GlobalReport site view index base items in
-    global_report_again any_report s rest (any_report_bounds s kinds.GlobalReport (inr refl) (refl, (k, f))) (refl, (k, f))
+    global_report_again any_report s rest (any_report_bounds s (inr refl) k f) (refl, (k, f))
 fields_again (LocalUnion site local greatest base items) rest k f =
     ap local_union_at (joined-append (byte site.0 ∷ number w32 local.0 ∷ number w32 greatest.0 ∷ number w32 base ∷ items_spelling items ∷ []) rest)
     ∙ (again_step byte_field _ _ site.0 f.0
     (again_step positive_field _ _ local.0 (f.1, k.0)
     (again_step u32_field _ _ greatest.0 f.2
     (again_step (u32_in_field 0 most_base) _ _ base (f.3, (omega arith, k.1))
-    (again_step (items_field (limits_above base greatest.0 no_limit)) _ _ items (k.2, f.4) refl)))))
+    (again_step (items_field (limits_above base greatest.0 None)) _ _ items (k.2, f.4) refl)))))
 fields_again (GlobalUnion site view base items) rest k f =
     ap global_union_at (joined-append (byte site.0 ∷ number w32 view.0 ∷ number w32 base ∷ items_spelling items ∷ []) rest)
     ∙ (again_step byte_field _ _ site.0 f.0
     (again_step positive_field _ _ view.0 (f.1, k.0)
     (again_step (u32_in_field 0 most_base) _ _ base (f.2, (omega arith, k.1))
-    (again_step (items_field (limits_above base (view.0 - 1) no_limit)) _ _ items (k.2, f.3) refl))))
+    (again_step (items_field (limits_above base (view.0 - 1) None)) _ _ items (k.2, f.3) refl))))
 fields_again (Reply site client time n outcome) rest k f =
     ap reply_at (joined-append (byte site.0 ∷ byte client.0 ∷ number w32 time ∷ number w32 n.0 ∷ text outcome ∷ []) rest)
     ∙ (again_step byte_field _ _ site.0 f.0

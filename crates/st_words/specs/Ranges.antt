@@ -1,6 +1,6 @@
 -- The ranges of fields. What a format asks (Keeps) stands apart from what every value of the code's
 -- types meets (Fits), so that a caller of a writer owes only the first.
-use Rattle.std.specs.Prelude.{ℕ, ◌+◌, ◌-◌, ◌^◌, ◌<◌, ◌≤◌, true, false, IsTrue, List, length, All}
+use Rattle.std.specs.Prelude.{ℕ, ◌+◌, ◌-◌, ◌^◌, ◌<◌, ◌≤◌, true, false, IsTrue, Option, Some, None, List, length, All}
 use Rattle.std.specs.Int.{IsInRange}
 use Rattle.st_fields.specs.Spelling.{KeepsEach}
 use Rattle.st_words.specs.declared.value.Update.{Update}
@@ -24,10 +24,6 @@ most_items = 16
 abbrev pub most_base : ℕ
 most_base = 2 ^ 32 - 17
 
--- where a number of four bytes has no other limit
-abbrev pub no_limit : ℕ
-no_limit = 2 ^ 32 - 1
-
 -- ---- what the formats ask
 
 -- a client counts its updates from 1
@@ -39,9 +35,14 @@ abbrev pub KeepsValue : Value → Type 0
 KeepsValue values.Noop = Unit {0}
 KeepsValue (values.Update u) = KeepsUpdate u
 
+-- at most a limit, where there is one
+abbrev pub KeepsLimit : Option ℕ → ℕ → Type 0
+KeepsLimit None n = Unit {0}
+KeepsLimit (Some most) n = n ≤ most
+
 -- an item within the limits that its list, and the items before it, set
 abbrev pub KeepsItem : ItemLimits → Item → Type 0
-KeepsItem limits i = (limits.after < i.number.0) × (i.number.0 ≤ limits.most) × (i.view.0 ≤ limits.most_view) × (i.local.0 ≤ limits.most_local) × KeepsValue i.value
+KeepsItem limits i = (limits.after < i.number.0) × (i.number.0 ≤ limits.most) × (i.view.0 ≤ limits.most_view) × KeepsLimit limits.most_local i.local.0 × KeepsValue i.value
 
 -- the numbers of items rise
 abbrev pub after_item : ItemLimits → Item → ItemLimits
@@ -52,7 +53,7 @@ abbrev pub KeepsItems : ItemLimits → List Item → Type 0
 KeepsItems limits items = (length items ≤ most_items) × KeepsEach KeepsItem after_item limits items
 
 -- the limits of a list's first item, above this base
-abbrev pub limits_above : ℕ → ℕ → ℕ → ItemLimits
+abbrev pub limits_above : ℕ → ℕ → Option ℕ → ItemLimits
 limits_above base most_view most_local = record { after = base; most = base + most_items; most_view = most_view; most_local = most_local }
 
 -- what a party says: an item of a local report or union is of no later view, one of a local report
@@ -63,10 +64,10 @@ KeepsStatement (Proposal site view local n v) = (1 ≤ n.0) × KeepsValue v
 KeepsStatement (Accept site view n v) = (1 ≤ n.0) × KeepsValue v
 KeepsStatement (LocalVc site local) = 1 ≤ local.0
 KeepsStatement (GlobalVc site view) = 1 ≤ view.0
-KeepsStatement (LocalReport site local index view base items) = (1 ≤ local.0) × (base ≤ most_base) × KeepsItems (limits_above base view.0 (local.0 - 1)) items
-KeepsStatement (GlobalReport site view index base items) = (1 ≤ view.0) × (base ≤ most_base) × KeepsItems (limits_above base (view.0 - 1) no_limit) items
-KeepsStatement (LocalUnion site local greatest base items) = (1 ≤ local.0) × (base ≤ most_base) × KeepsItems (limits_above base greatest.0 no_limit) items
-KeepsStatement (GlobalUnion site view base items) = (1 ≤ view.0) × (base ≤ most_base) × KeepsItems (limits_above base (view.0 - 1) no_limit) items
+KeepsStatement (LocalReport site local index view base items) = (1 ≤ local.0) × (base ≤ most_base) × KeepsItems (limits_above base view.0 (Some (local.0 - 1))) items
+KeepsStatement (GlobalReport site view index base items) = (1 ≤ view.0) × (base ≤ most_base) × KeepsItems (limits_above base (view.0 - 1) None) items
+KeepsStatement (LocalUnion site local greatest base items) = (1 ≤ local.0) × (base ≤ most_base) × KeepsItems (limits_above base greatest.0 None) items
+KeepsStatement (GlobalUnion site view base items) = (1 ≤ view.0) × (base ≤ most_base) × KeepsItems (limits_above base (view.0 - 1) None) items
 KeepsStatement (Reply site client time n outcome) = (1 ≤ time) × (1 ≤ n.0) × (length outcome ≤ most_text)
 KeepsStatement (ClientUpdate update) = KeepsUpdate update
 

@@ -1,5 +1,5 @@
 -- Reading updates, values, items and statements from left to right, with the first fault.
-use Rattle.std.specs.Prelude.{ℕ, ◌-◌, true, ◌&&◌, List, [], ◌∷◌, length, Ok, Err, ◌==◌, if◌then◌else◌}
+use Rattle.std.specs.Prelude.{ℕ, ◌-◌, ◌^◌, Option, Some, None, true, ◌&&◌, List, [], ◌∷◌, length, Ok, Err, ◌==◌, if◌then◌else◌}
 use Rattle.std.specs.Int.{w32, w64}
 use Rattle.st_fields.specs.Spelling.{byte}
 use Rattle.st_fields.specs.Reading.{Read, ◌>>=◌, byte_at, number_at, byte_in, number_in, number_above, positive_at, kind_at, text_at, mark_at, counted_at}
@@ -14,7 +14,7 @@ use Rattle.st_words.specs.declared.kind.StatementKind.TheVariants as kinds
 use Rattle.st_words.specs.declared.limits.ItemLimits.{ItemLimits}
 use Rattle.st_words.specs.declared.limits.ReportBounds.{ReportBounds}
 use Rattle.st_words.specs.Kind.{kind_number}
-use Rattle.st_words.specs.Ranges.{most_text, most_items, most_base, no_limit, after_item, limits_above}
+use Rattle.st_words.specs.Ranges.{most_text, most_items, most_base, after_item, limits_above}
 use Rattle.st_words.specs.Spelling.{statement_mark}
 
 -- an update's fields
@@ -37,12 +37,17 @@ value_at bytes =
     update_fields_at rest >>= λ u rest.
     Ok (values.Update u, rest)
 
+-- a number of four bytes, at most a limit where there is one
+unfoldable pub limited_at : Option ℕ → List ℕ → Read ℕ
+limited_at None = number_at w32
+limited_at (Some most) = number_in w32 0 most
+
 -- an item within the limits
 unfoldable pub item_at : ItemLimits → List ℕ → Read Item
 item_at limits bytes =
     number_above w32 limits.after limits.most bytes >>= λ n rest.
     number_in w32 0 limits.most_view rest >>= λ view rest.
-    number_in w32 0 limits.most_local rest >>= λ local rest.
+    limited_at limits.most_local rest >>= λ local rest.
     value_at rest >>= λ v rest.
     Ok (record { number = record { 0 = n }; view = record { 0 = view }; local = record { 0 = local }; value = v }, rest)
 
@@ -103,7 +108,7 @@ local_report_at bounds bytes =
     byte_in bounds.least_index 255 rest >>= λ index rest.
     number_at w32 rest >>= λ view rest.
     number_in w32 0 most_base rest >>= λ base rest.
-    items_at (limits_above base view (local - 1)) rest >>= λ items rest.
+    items_at (limits_above base view (Some (local - 1))) rest >>= λ items rest.
     Ok (LocalReport (record { 0 = site }) (record { 0 = local }) index (record { 0 = view }) base items, rest)
 
 -- the fields of a GlobalReport that may stand within the bounds
@@ -113,7 +118,7 @@ global_report_at bounds bytes =
     number_above w32 bounds.after_view bounds.most_view rest >>= λ view rest.
     byte_in bounds.least_index 255 rest >>= λ index rest.
     number_in w32 0 most_base rest >>= λ base rest.
-    items_at (limits_above base (view - 1) no_limit) rest >>= λ items rest.
+    items_at (limits_above base (view - 1) None) rest >>= λ items rest.
     Ok (GlobalReport (record { 0 = site }) (record { 0 = view }) index base items, rest)
 
 -- a LocalUnion's fields
@@ -123,7 +128,7 @@ local_union_at bytes =
     positive_at rest >>= λ local rest.
     number_at w32 rest >>= λ greatest rest.
     number_in w32 0 most_base rest >>= λ base rest.
-    items_at (limits_above base greatest no_limit) rest >>= λ items rest.
+    items_at (limits_above base greatest None) rest >>= λ items rest.
     Ok (LocalUnion (record { 0 = site }) (record { 0 = local }) (record { 0 = greatest }) base items, rest)
 
 -- a GlobalUnion's fields
@@ -132,7 +137,7 @@ global_union_at bytes =
     byte_at bytes >>= λ site rest.
     positive_at rest >>= λ view rest.
     number_in w32 0 most_base rest >>= λ base rest.
-    items_at (limits_above base (view - 1) no_limit) rest >>= λ items rest.
+    items_at (limits_above base (view - 1) None) rest >>= λ items rest.
     Ok (GlobalUnion (record { 0 = site }) (record { 0 = view }) base items, rest)
 
 -- a Reply's fields
@@ -156,7 +161,7 @@ client_update_at bytes =
 
 -- every report
 abbrev pub any_report : ReportBounds
-any_report = record { local = true; global = true; least_site = 0; most_site = 255; after_view = 0; most_view = no_limit; least_index = 0 }
+any_report = record { local = true; global = true; least_site = 0; most_site = 255; after_view = 0; most_view = 2 ^ 32 - 1; least_index = 0 }
 
 -- the fields behind a kind
 abbrev pub fields_at : StatementKind → List ℕ → Read Statement

@@ -13,8 +13,8 @@ pub struct ItemLimits {
     pub most: u32,
     /// Its view is at most this.
     pub most_view: u32,
-    /// Its local view is at most this.
-    pub most_local: u32,
+    /// Its local view is at most this, where it has a limit.
+    pub most_local: Option<u32>,
 }
 
 /// Which report may stand here. In a list of reports the first one narrows it.

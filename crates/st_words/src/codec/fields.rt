@@ -98,7 +98,7 @@ pub fn read_local_union(alloc: Global, bytes: &[u8]) -> Result<(Statement, &[u8]
     let (local, rest) = read_positive(rest)?;
     let (greatest, rest) = read_u32(rest)?;
     let (base, rest) = read_u32_in(rest, 0, MOST_BASE)?;
-    let (items, rest) = read_items(alloc, limits_above(base, greatest, u32::MAX), rest)?;
+    let (items, rest) = read_items(alloc, limits_above(base, greatest, None), rest)?;
     let union = Statement::LocalUnion {
         site: SiteId(site),
         local: LocalView(local),
@@ -116,7 +116,7 @@ pub fn read_global_union(alloc: Global, bytes: &[u8]) -> Result<(Statement, &[u8
     let (site, rest) = read_byte(bytes)?;
     let (view, rest) = read_positive(rest)?;
     let (base, rest) = read_u32_in(rest, 0, MOST_BASE)?;
-    let (items, rest) = read_items(alloc, limits_above(base, view - 1, u32::MAX), rest)?;
+    let (items, rest) = read_items(alloc, limits_above(base, view - 1, None), rest)?;
     let union = Statement::GlobalUnion {
         site: SiteId(site),
         view: View(view),

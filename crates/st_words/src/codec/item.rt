@@ -4,19 +4,30 @@ ghost use Rattle.std.specs.Prelude.{◌≡◌, ◌++◌, ◌≤◌, OnOk, length
 ghost use Rattle.st_fields.specs.Reading.{Gives};
 ghost use Rattle.st_words.specs.Ranges.{most_base, most_items, KeepsValue, after_item, limits_above};
 ghost use Rattle.st_words.specs.Spelling.{item_spelling, items_spelling};
-ghost use Rattle.st_words.specs.Reading.{item_at, items_at};
+ghost use Rattle.st_words.specs.Reading.{limited_at, item_at, items_at};
 
 use crate::codec::value::{put_value, read_value};
 use crate::ids::{LocalView, Number, View};
 use crate::limits::ItemLimits;
 use crate::statement::{Item, Items};
 use st_fields::{
-    FieldError, ReadsEach, Spelled, put_counted, put_u32, read_above, read_counted, read_u32_in,
+    FieldError, ReadsEach, Spelled, put_counted, put_u32, read_above, read_counted, read_u32,
+    read_u32_in,
 };
 use std::alloc::{AllocError, Global};
 
 /// How many items stand together at most.
 pub const MOST_ITEMS: u8 = 16;
+
+#[tactic(auto, unfolding(crate::specs::Reading::limited_at))]
+fn read_limited(limit: Option<u32>, bytes: &[u8]) -> Result<(u32, &[u8]), FieldError>
+    ensures { Gives (λ x. (x.0, x.1.now)) result (limited_at limit bytes.now) }
+{
+    match limit {
+        None => read_u32(bytes),
+        Some(most) => read_u32_in(bytes, 0, most),
+    }
+}
 
 #[tactic(auto, unfolding(crate::specs::Reading::item_at))]
 fn read_item<'a>(
@@ -28,7 +39,7 @@ fn read_item<'a>(
 {
     let (number, rest) = read_above(bytes, limits.after, limits.most)?;
     let (view, rest) = read_u32_in(rest, 0, limits.most_view)?;
-    let (local, rest) = read_u32_in(rest, 0, limits.most_local)?;
+    let (local, rest) = read_limited(limits.most_local, rest)?;
     let (value, rest) = read_value(alloc, rest)?;
     let item = Item {
         number: Number(number),
@@ -105,7 +116,7 @@ pub fn put_items(out: &mut Vec<u8>, items: &Items) -> Result<(), AllocError>
 pub const MOST_BASE: u32 = u32::MAX - 16;
 
 /// The limits of the first item of a list above `base`.
-pub fn limits_above(base: u32, most_view: u32, most_local: u32) -> ItemLimits
+pub fn limits_above(base: u32, most_view: u32, most_local: Option<u32>) -> ItemLimits
     requires { base ≤ most_base }
     ensures { result ≡ limits_above base most_view most_local }
 {

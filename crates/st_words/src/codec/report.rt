@@ -25,7 +25,7 @@ pub fn read_local_report<'a>(
     let (index, rest) = read_byte_in(rest, bounds.least_index, u8::MAX)?;
     let (view, rest) = read_u32(rest)?;
     let (base, rest) = read_u32_in(rest, 0, MOST_BASE)?;
-    let (items, rest) = read_items(alloc, limits_above(base, view, local - 1), rest)?;
+    let (items, rest) = read_items(alloc, limits_above(base, view, Some(local - 1)), rest)?;
     let report = Statement::LocalReport {
         site: SiteId(site),
         local: LocalView(local),
@@ -49,7 +49,7 @@ pub fn read_global_report<'a>(
     let (view, rest) = read_above(rest, bounds.after_view, bounds.most_view)?;
     let (index, rest) = read_byte_in(rest, bounds.least_index, u8::MAX)?;
     let (base, rest) = read_u32_in(rest, 0, MOST_BASE)?;
-    let (items, rest) = read_items(alloc, limits_above(base, view - 1, u32::MAX), rest)?;
+    let (items, rest) = read_items(alloc, limits_above(base, view - 1, None), rest)?;
     let report = Statement::GlobalReport {
         site: SiteId(site),
         view: View(view),

@@ -206,7 +206,7 @@ fn items_both_ways(rt: HostRuntime) -> Result<(), Fail> {
     let mut out = Vec::new(alloc);
     put_items(&mut out, items)?;
     assert!(rt; out.as_slice() == &LOCAL_REPORT[31..]);
-    let limits = limits_above(3, 2, 1);
+    let limits = limits_above(3, 2, Some(1));
     let read = read_items(alloc, limits, out.as_slice());
     let (again, rest) = read.ok().ok_or("items")?;
     assert!(rt; again.same(items));
