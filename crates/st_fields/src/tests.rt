@@ -31,6 +31,16 @@ fn a_list_is_its_elements(rt: HostRuntime) -> Result<(), Fail> {
     Ok(())
 }
 
+#[test]
+fn a_shared_value_is_the_value(rt: HostRuntime) -> Result<(), Fail> {
+    let alloc = rt.alloc();
+    let shared: Shared<Bytes> = Shared::new(alloc, Seq::from_slice(alloc, b"hi")?)?;
+    let copy = shared.copy(alloc)?;
+    assert!(rt; copy.get().same(shared.get()));
+    assert_eq!(rt; copy.get().len(), 2);
+    Ok(())
+}
+
 // The bytes by hand.
 const FIELDS: &[u8] = b"MARK\x01\x02\x03\0\0\x01\0\0\0\0\0\0\0\0\x02\0\x02hi";
 

@@ -96,7 +96,7 @@ pub stands_executed : (live : Live) (ran : ℕ) (clients : Clients) (slots : Slo
 unfolding after notes cuts runs asked
 stands_executed live ran clients slots hand own n p q stands last place kept slots_up hand_up own_up =
     let places : (c : ℕ) → place_of clients c ≡ cond (runs_for (last_of live.clients) p.value c) (length q.log.run.entries + 1) (place_of live.clients c) =
-        λ c. place c ∙ ap (λ k. cond (runs_for (last_of live.clients) p.value c) (k + 1) (place_of live.clients c)) stands.entries in
+    λ c. place c ∙ ap (λ k. cond (runs_for (last_of live.clients) p.value c) (k + 1) (place_of live.clients c)) stands.entries in
     let lasts : last_of live.clients ≡ q.log.run.last = ap (λ (a : Answers). a.log.run.last) stands.is in
     record {
       is = after_is live (with_executed live ran clients slots hand own) q (Executed n p) stands.is (live_executed (past_of q) live ran clients slots hand own n p last places slots_up hand_up own_up);

@@ -65,6 +65,7 @@ own_still h own m report vc union proposal accept = ap (own_cuts h) taken ∙ ow
     view_alone : (x : Option Completed) → greatest_last completed_view x None ≡ x
     view_alone None = refl
     view_alone (Some x) = refl
+
     taken : own_takes m (own_of h own) ≡ own_of h own
     taken =
         λ i. record {

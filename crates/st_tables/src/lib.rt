@@ -4,6 +4,8 @@
 
 mod ring;
 mod table;
+#[cfg(test)]
+mod tests;
 
 pub use ring::Ring;
 pub use table::Table;
