@@ -4,3 +4,4 @@ pub mod NoteLaws
 pub mod HearLaws
 pub mod SealedLaws
 pub mod LiveLaws
+pub mod PlacedLaws

@@ -1,10 +1,13 @@
 -- The short state of a server, as the answers that it gives together with the long state.
-use Rattle.std.specs.Prelude.{ℕ, ◌≡◌, ◌<◌, ◌≤◌, Option, Some, None, List, length}
+use Rattle.std.specs.Prelude.{ℕ, ◌≡◌, ◌+◌, ◌<◌, ◌≤◌, Option, Some, None, List, length}
 use Rattle.st_words.specs.declared.statement.Statement.{Statement}
 use Rattle.st_message.specs.declared.log.Entry.{Entry}
 use Rattle.st_message.specs.declared.message.Proof.{Proof}
 use Rattle.st_protocol.specs.State.{Here, Sealing, Votes, Making, Answers}
 use Rattle.st_protocol.specs.Duty.{sealing_of}
+use Rattle.st_message.specs.declared.change.Change.TheVariants.{Made}
+use Rattle.st_protocol.specs.Growth.{slots_notes}
+use Rattle.st_state.specs.declared.slots.Slots.{Slots}
 use Rattle.st_state.specs.HereView.{here_of}
 use Rattle.st_state.specs.SlotsView.{slots_of}
 use Rattle.st_state.specs.ClientsView.{last_of, place_of, pending_of}
@@ -57,3 +60,7 @@ pub record IsLive (live : Live) (q : Answers) : Type 0 where
   pub ran : live.ran ≡ kept_count (length q.log.run.ran)
   pub sealed : IsSealed q
   pub few : q.here.leaf ≤ q.here.seat.capacity
+
+-- the slots once a statement is made with this leaf
+abbrev pub NotesMade : Here → Slots → Slots → ℕ → Statement → Type 0
+NotesMade here old new leaf s = slots_of (record here { leaf = here.leaf + 1 }) new ≡ slots_notes (record here { leaf = here.leaf + 1 }) (Made leaf s) (slots_of here old)

@@ -3,11 +3,12 @@ ghost use Rattle.st_fields.specs.declared.error.WordsError.TheVariants as words;
 ghost use Rattle.st_message.specs.declared.change.Change.TheVariants as changes;
 ghost use Rattle.st_protocol.specs.State.{Answers};
 ghost use Rattle.st_protocol.specs.Growth.{after};
+ghost use Rattle.st_state.specs.HereView.{Serve, here_of};
 ghost use Rattle.st_state.specs.Placed.{is_placed};
 ghost use Rattle.st_protocol.specs.Questions.{last_after, runs_for, ops_of};
 ghost use Rattle.st_state.specs.ClientsView.{last_of, place_of};
 ghost use Rattle.st_server.specs.Service.{kept_count};
-ghost use Rattle.st_server.specs.LiveView.{place_here, IsLive};
+ghost use Rattle.st_server.specs.LiveView.{place_here, IsLive, NotesMade};
 
 use st_fields::WordsError;
 use st_message::{Change, Here, Proof};
@@ -64,21 +65,7 @@ impl Live {
         ensures memory { IsOkUnless result words.OutOfMemory }
     {
         let here = self.here;
-        match statement {
-            Statement::Prepare { number, .. } => {
-                self.slots
-                    .note_prepare(alloc, &here, leaf, *number, statement)?
-            }
-            Statement::Proposal { number, .. } => {
-                self.slots
-                    .note_proposal(alloc, &here, leaf, *number, statement)?
-            }
-            Statement::Accept { number, .. } => {
-                self.slots
-                    .note_accept(alloc, &here, leaf, *number, statement)?
-            }
-            _ => {}
-        }
+        note_statement(alloc, &mut self.slots, &here, leaf, statement)?;
         self.here.leaf += 1;
         Ok(())
     }
@@ -180,4 +167,32 @@ impl Live {
             own: self.own.copy(alloc)?,
         })
     }
+}
+
+// Notes in the slots a statement that is made with the next leaf.
+fn note_statement(
+    alloc: Global,
+    slots: &mut Slots,
+    here: &Here,
+    leaf: u32,
+    statement: &Statement,
+) -> Result<(), WordsError>
+    requires { (clients : ℕ) (serve : Serve) → IsTrue (is_placed (here_of clients serve here.now) (changes.Made leaf statement.now)) }
+    ensures ok { OnOk result ((clients : ℕ) (serve : Serve) → NotesMade (here_of clients serve here.now) slots.old slots.new leaf statement.now) }
+    ensures err { OnErr result (slots.new ≡ slots.old) }
+    ensures memory { IsOkUnless result words.OutOfMemory }
+{
+    match statement {
+        Statement::Prepare { number, .. } => {
+            slots.note_prepare(alloc, here, leaf, *number, statement)?
+        }
+        Statement::Proposal { number, .. } => {
+            slots.note_proposal(alloc, here, leaf, *number, statement)?
+        }
+        Statement::Accept { number, .. } => {
+            slots.note_accept(alloc, here, leaf, *number, statement)?
+        }
+        _ => {}
+    }
+    Ok(())
 }

@@ -92,7 +92,7 @@ stays_at_view view e g k old low = let alone = or_else_alone old in grind (arith
 -- ---- a statement is made
 
 -- the shares don't change when a statement is made
-shares_stay : (leaf : ℕ) (h : Here) (slots : Slots) (p : Place) (i : ℕ) → shares_at (record h { leaf = leaf }) slots p i ≡ shares_at h slots p i
+pub shares_stay : (leaf : ℕ) (h : Here) (slots : Slots) (p : Place) (i : ℕ) → shares_at (record h { leaf = leaf }) slots p i ≡ shares_at h slots p i
 shares_stay leaf h slots (AtPrepare g l n) i = refl
 shares_stay leaf h slots (AtProposal g l n) i = refl
 shares_stay leaf h slots (AtAccept g n) i = refl
@@ -101,7 +101,7 @@ same_entry : {A : Type 0} (e : ℕ) (xs : List (Option A)) (n k : ℕ) → n ≡
 same_entry e xs n k = ap (kept e xs)
 
 -- what doesn't change when a statement is made
-prepared_stays : (e : ℕ) (xs : List (Option Backed)) (k : ℕ) → kept e xs k ≡ open_if (nat_lt e k) (higher backed_view backed_local (kept e xs k) None)
+pub prepared_stays : (e : ℕ) (xs : List (Option Backed)) (k : ℕ) → kept e xs k ≡ open_if (nat_lt e k) (higher backed_view backed_local (kept e xs k) None)
 prepared_stays e xs k = kept_stays e xs k ∙ ap (open_if (nat_lt e k)) (sym (higher_alone (kept e xs k)))
 
 prepares_stay : (h : Here) (slots : Slots) (g l k : ℕ) → open_if (is_at h g l) (kept h.executed slots.prepares k)
@@ -206,7 +206,7 @@ higher_kept e n k new old here x put same above low = by_test (nat_eq n k) refl
         let alone = higher_alone old in
         rw eb (rw alone (grind (arith, is, low)))
 
-made_stays_at : (h : Here) (slots : Slots) (p : Place) → made_at h slots p ≡ open_if (open_place h p) (or_else (made_at h slots p) None)
+pub made_stays_at : (h : Here) (slots : Slots) (p : Place) → made_at h slots p ≡ open_if (open_place h p) (or_else (made_at h slots p) None)
 made_stays_at h slots (AtPrepare g l k) = prepares_stay h slots g l k
 made_stays_at h slots (AtProposal g l k) = proposals_stay h slots g l k
 made_stays_at h slots (AtAccept g k) = accepts_stay h slots g k
