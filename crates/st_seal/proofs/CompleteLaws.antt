@@ -21,10 +21,12 @@ use Rattle.st_seal.proofs.CollectingLaws.{seals_index}
 
 -- ---- one share more
 
+-- nothing is counted below 0
 count-zero : (p q : ℕ → Bool) → count_below p 0 ≡ count_below q 0
 unfolding count_below
 count-zero p q = refl
 
+-- one index more of `count_with`
 count_with_step : (b : Bool) (p q : ℕ → Bool) (k n : ℕ) → (n == k) ≡ b → p k ≡ false → q k ≡ true → ((i : ℕ) → (i ≡ k → ⊥) → q i ≡ p i)
     → (n ≤ k → count_below q n ≡ count_below p n) × (k < n → count_below q n ≡ count_below p n + 1)
     → (suc n ≤ k → count_below q (suc n) ≡ count_below p (suc n)) × (k < suc n → count_below q (suc n) ≡ count_below p (suc n) + 1)
@@ -50,9 +52,11 @@ count_with : (p q : ℕ → Bool) (k : ℕ) → p k ≡ false → q k ≡ true �
 count_with p q k fails passes same zero = ((λ h. count-zero q p), (λ h. absurd (omega arith)))
 count_with p q k fails passes same (suc n) = count_with_step (n == k) p q k n refl fails passes same (count_with p q k fails passes same n)
 
+-- equal bytes pass the test
 same_bytes : (xs ys : List ℕ) → xs ≡ ys → pointwise nat_eq xs ys ≡ true
 same_bytes xs ys e = (slice_eq-Decides Decides-eqb xs ys _ refl).1 e
 
+-- bytes that pass the test are equal
 bytes_same : (xs ys : List ℕ) → pointwise nat_eq xs ys ≡ true → xs ≡ ys
 bytes_same xs ys e = (slice_eq-Decides Decides-eqb xs ys _ refl).0 e
 
@@ -70,10 +74,12 @@ agreeing_with f shares bytes s over inside none =
 
 -- ---- a slot that isn't complete
 
+-- what implies a test that fails, fails
 not_passing : (x y : Bool) → (x ≡ true → y ≡ true) → y ≡ false → x ≡ false
 not_passing true y implies off = absurd (let on = implies refl in cc)
 not_passing false y implies off = refl
 
+-- where no index passes a test, none passes one that implies it
 none_pass : (p q : ℕ → Bool) (n : ℕ) → ((i : ℕ) → p i ≡ true → q i ≡ true) → some_below q n ≡ false → count_below p n ≡ 0
 unfolding count_below some_below
 none_pass p q zero implies none = refl
@@ -82,10 +88,12 @@ none_pass p q (suc n) implies none =
     let off : p n ≡ false = not_passing (p n) (q n) (implies n) parts.1 in
     rw off (let before = none_pass p q n implies parts.0 in omega arith)
 
+-- a share over bytes that a quorum's are over is backed
 backed : (f : ℕ) (shares : Shares) (bytes : List ℕ) (share : Option Share) → nat_le (2 * f + 1) (agreeing f shares bytes) ≡ true → says bytes share ≡ true → is_backed f shares share ≡ true
 backed f shares bytes None many over = absurd (let no : false ≡ true = over in cc)
 backed f shares bytes (Some s) many over = ap (λ (b : List ℕ). nat_le (2 * f + 1) (agreeing f shares b)) (bytes_same s.bytes bytes over) ∙ many
 
+-- `agreeing_open` by the test for a quorum
 few_step : (b : Bool) (f : ℕ) (shares : Shares) (bytes : List ℕ) → nat_le (2 * f + 1) (agreeing f shares bytes) ≡ b → is_complete f shares ≡ false → agreeing f shares bytes ≤ 2 * f
 unfolding agreeing is_complete
 few_step true f shares bytes test unfinished =
@@ -99,14 +107,17 @@ agreeing_open f shares bytes unfinished = few_step (nat_le (2 * f + 1) (agreeing
 
 -- ---- the seals of a completed slot
 
+-- one seal or none
 length_if : (b : Bool) (s : Signed) → length {A = Signed} (if b then s ∷ [] else []) ≡ (if b then 1 else 0)
 length_if true s = refl
 length_if false s = refl
 
+-- a server gives one seal or none
 length_over : (bytes : List ℕ) (i : ℕ) (share : Option Share) → length (seal_over bytes i share) ≡ (if says bytes share then 1 else 0)
 length_over bytes i None = refl
 length_over bytes i (Some s) = length_if (pointwise nat_eq s.bytes bytes) (record { index = i; seal = s.seal })
 
+-- as many seals as servers' shares over the bytes
 length_seals : (bytes : List ℕ) (shares : Shares) (n : ℕ) → length (seals_below bytes shares n) ≡ count_below (λ i. says bytes (shares i)) n
 unfolding seals_below count_below
 length_seals bytes shares zero = refl
@@ -116,14 +127,17 @@ length_seals bytes shares (suc n) =
     let both = length-append (seals_below bytes shares n) (seal_over bytes n (shares n)) in
     omega arith
 
+-- a seal of a greater index, if it counts, keeps the indices rising
 rising_if : (b : Bool) (ss : List Signed) (s : Signed) → All (λ (t : Signed). t.index < s.index) ss → IsRisingFrom 0 ss → IsRisingFrom 0 (ss ++ (if b then s ∷ [] else []))
 rising_if true ss s all rising = rising-push 0 ss s (omega arith) all rising
 rising_if false ss s all rising = rw append-nil rising
 
+-- the same of a server's share
 rising_over : (bytes : List ℕ) (ss : List Signed) (n : ℕ) (share : Option Share) → All (λ (t : Signed). t.index < n) ss → IsRisingFrom 0 ss → IsRisingFrom 0 (ss ++ seal_over bytes n share)
 rising_over bytes ss n None all rising = rw append-nil rising
 rising_over bytes ss n (Some s) all rising = rising_if (pointwise nat_eq s.bytes bytes) ss (record { index = n; seal = s.seal }) all rising
 
+-- the seals have rising indices
 seals_rising : (bytes : List ℕ) (shares : Shares) (n : ℕ) → IsRisingFrom 0 (seals_below bytes shares n)
 unfolding seals_below
 seals_rising bytes shares zero = tt
@@ -169,10 +183,12 @@ kept_many f shares bytes s over inside none many =
     let on : nat_le (2 * f + 1) (agreeing f (with_share shares s) bytes) ≡ true = le-leb (2 * f + 1) (agreeing f (with_share shares s) bytes) (omega arith) in
     sym (ap (λ (b : Bool). if b then Complete (seals_below bytes (with_share shares s) (3 * f + 1)) else Kept) on)
 
+-- no share is None
 pub none_is : (share : Option Share) → is_some share ≡ false → share ≡ None
 none_is None e = refl
 none_is (Some s) e = absurd (let no : true ≡ false = e in cc)
 
+-- `certifying` of a share that is kept, by the test for a quorum
 certifying_kept : (b : Bool) (f : ℕ) (site : SiteId) (bytes : List ℕ) (shares : Shares) → nat_le (2 * f + 1) (agreeing f shares bytes) ≡ b → agreeing f shares bytes ≤ 2 * f + 1
     → IsCertifying (site, f) bytes (if b then Complete (seals_below bytes shares (3 * f + 1)) else Kept)
 certifying_kept true f site bytes shares test few = λ checks sealed.
@@ -180,6 +196,7 @@ certifying_kept true f site bytes shares test few = λ checks sealed.
     quorum_certifies checks f site bytes shares (omega arith) sealed
 certifying_kept false f site bytes shares test few = tt
 
+-- `certifying` of a server's share, by the test for one that isn't kept
 certifying_new : (b : Bool) (f : ℕ) (site : SiteId) (bytes : List ℕ) (shares : Shares) (signed : Signed) → (is_some (shares signed.index) || is_complete f shares) ≡ b → signed.index < 3 * f + 1
     → IsCertifying (site, f) bytes (if b then Seen else kept_answer f (with_share shares (share_of bytes signed)) bytes)
 certifying_new true f site bytes shares signed test inside = tt
@@ -189,6 +206,7 @@ certifying_new false f site bytes shares signed test inside =
     let now = agreeing_with f shares bytes (share_of bytes signed) refl inside (none_is (shares signed.index) parts.0) in
     certifying_kept (nat_le (2 * f + 1) (agreeing f (with_share shares (share_of bytes signed)) bytes)) f site bytes (with_share shares (share_of bytes signed)) refl (omega arith)
 
+-- `certifying` by the test for a server
 certifying_step : (b : Bool) (f : ℕ) (site : SiteId) (bytes : List ℕ) (shares : Shares) (signed : Signed) → nat_le (3 * f + 1) signed.index ≡ b
     → IsCertifying (site, f) bytes (if b then NotServer else (if is_some (shares signed.index) || is_complete f shares then Seen else kept_answer f (with_share shares (share_of bytes signed)) bytes))
 certifying_step true f site bytes shares signed test = tt

@@ -26,12 +26,16 @@ unfoldable pub keyed_checks : Scheme → Checks
 keyed_checks s who bytes seal =
     is_party s who && (length seal == 36) && pointwise nat_eq seal (keyed_seal (secret_of s.seed who) (take 4 seal) bytes)
 
+-- what a party seals with a leaf
+unfoldable pub sealed_by : Scheme → Who → ℕ → List ℕ → List ℕ
+sealed_by s who leaf bytes = keyed_seal (secret_of s.seed who) (to_be_bytes w32 leaf) bytes
+
 -- a party's keyed seals: 2^20 leaves
 abbrev pub keyed_pen : Scheme → Who → Pen
 keyed_pen s who = record {
   owner = who;
   scheme = s;
   capacity = 2 ^ 20;
-  seal_of = λ leaf bytes. keyed_seal (secret_of s.seed who) (to_be_bytes w32 leaf) bytes;
+  seal_of = sealed_by s who;
   checks = keyed_checks s;
 }

@@ -10,7 +10,7 @@ use Rattle.sha2.proofs.Facts256.{length-sha256}
 use Rattle.st_words.specs.declared.ids.Who.{Who}
 use Rattle.st_seal.specs.Scheme.{Scheme, is_party}
 use Rattle.st_seal.specs.Pen.{Accepts, IsSound}
-use Rattle.st_seal.specs.Keyed.{secret_of, keyed_seal, keyed_checks, keyed_pen}
+use Rattle.st_seal.specs.Keyed.{secret_of, keyed_seal, keyed_checks, sealed_by, keyed_pen}
 
 -- a list is equal to itself
 same_bytes : (xs : List ℕ) → pointwise nat_eq xs xs ≡ true
@@ -28,7 +28,7 @@ take-keyed_seal secret leaf bytes = refl
 
 -- what a party seals checks as its own, with whatever leaf
 pub keyed_accepted : (s : Scheme) (who : Who) → is_party s who ≡ true → Accepts (keyed_checks s) (keyed_pen s who)
-unfolding keyed_checks
+unfolding keyed_checks sealed_by
 keyed_accepted s who party leaf bytes below =
     let seal : List ℕ = keyed_seal (secret_of s.seed who) (to_be_bytes w32 leaf) bytes in
     let whole : (length seal == 36) ≡ true = eq-eqb (length seal) 36 (length-keyed_seal (secret_of s.seed who) leaf bytes) in
@@ -38,6 +38,7 @@ keyed_accepted s who party leaf bytes below =
 
 -- a party's keyed seals keep the laws
 pub keyed_sound : (s : Scheme) (who : Who) → is_party s who ≡ true → IsSound (keyed_pen s who)
+unfolding sealed_by
 keyed_sound s who party = record {
   accepted = keyed_accepted s who party;
   fits = λ leaf bytes below. let e = length-keyed_seal (secret_of s.seed who) leaf bytes in (omega arith, omega arith);

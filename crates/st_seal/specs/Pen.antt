@@ -25,9 +25,13 @@ IsOf d pen = pen.scheme ≡ scheme_of d
 abbrev pub Accepts : Checks → Pen → Type 0
 Accepts checks pen = (leaf : ℕ) (bytes : List ℕ) → leaf < pen.capacity → IsTrue (checks pen.owner bytes (pen.seal_of leaf bytes))
 
+-- the longest seal: of height 10, width 4 and two levels
+abbrev pub most_seal : ℕ
+most_seal = 5076
+
 -- the laws of a pen: its seals check in its own scheme, a message has room for each of them, and its
 -- leaves are few. That a leaf with the same bytes gives the same seal is said by `seal_of` being a function.
 pub record IsSound (pen : Pen) : Type 0 where
   pub accepted : Accepts pen.checks pen
-  pub fits : (leaf : ℕ) (bytes : List ℕ) → leaf < pen.capacity → (1 ≤ length (pen.seal_of leaf bytes)) × (length (pen.seal_of leaf bytes) ≤ 5076)
+  pub fits : (leaf : ℕ) (bytes : List ℕ) → leaf < pen.capacity → (1 ≤ length (pen.seal_of leaf bytes)) × (length (pen.seal_of leaf bytes) ≤ most_seal)
   pub few : pen.capacity ≤ 2 ^ 20

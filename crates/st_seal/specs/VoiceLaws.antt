@@ -14,6 +14,7 @@ use Rattle.st_seal.specs.Voices.{count_below, gave, IsHeard}
 first_or : (x y : Bool) → x ≡ true → (x || y) ≡ true
 first_or x y e = ap (λ (b : Bool). b || y) e
 
+-- the other of two tests
 second_or : (x y : Bool) → y ≡ true → (x || y) ≡ true
 second_or x y e = ap (λ (b : Bool). x || b) e ∙ or-true x
 
@@ -28,6 +29,7 @@ unfolding count_below
 count-add test low zero = rw add-zero (omega arith)
 count-add test low (suc d) = let before = count-add test low d in rw add-suc (omega arith)
 
+-- the same, of two lengths
 count-mono : (test : ℕ → Bool) (low n : ℕ) → low ≤ n → count_below test low ≤ count_below test n
 count-mono test low n below =
     let e : low + (n - low) ≡ n = omega arith in

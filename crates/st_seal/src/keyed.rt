@@ -37,6 +37,7 @@ impl KeyedSeals {
     ghost use Rattle.st_words.specs.declared.deployment.SealKind.TheVariants.{Keyed};
     ghost use Rattle.st_seal.specs.Scheme.{scheme_of};
     ghost use Rattle.st_seal.specs.KeyedSealers.{pen_of};
+    ghost use Rattle.st_seal.specs.Pen.{Accepts};
 
     /// The keyed seals of a deployment's parties, of whatever kind its own seals are. Takes no memory.
     pub fn new(d: &Deployment) -> KeyedSeals
@@ -62,9 +63,11 @@ impl KeyedSeals {
     }
 
     /// The sealer of a party of the deployment. Takes no memory.
+    #[tactic(auto, using(crate::specs::KeyedLaws::keyed_accepted))]
     pub fn sealer(&self, who: Who) -> KeyedSealer
         requires { IsTrue (is_party (keyed_scheme self.now) who) }
-        ensures { pen_of result ≡ keyed_pen (keyed_scheme self.now) who }
+        ensures pen { pen_of result ≡ keyed_pen (keyed_scheme self.now) who }
+        ensures accepted { Accepts (keyed_checks (keyed_scheme self.now)) (pen_of result) }
     {
         KeyedSealer {
             seals: *self,
@@ -98,6 +101,7 @@ impl Sealer for KeyedSealer {
 
     ghost sound = { λ s. keyed_sound (keyed_scheme s.seals) s.who s.party };
 
+    #[tactic(auto, unfolding(crate::specs::Keyed::sealed_by))]
     fn seal(&mut self, alloc: Global, leaf: u32, bytes: &[u8]) -> Result<Bytes, SealError> {
         if leaf >= LEAVES {
             return Err(SealError::Spent { leaf });
