@@ -66,7 +66,7 @@ impl Live {
     {
         let here = self.here;
         note_statement(alloc, &mut self.slots, &here, leaf, statement)?;
-        self.here.leaf += 1;
+        self.here.leaf = next_leaf(here.leaf, here.capacity);
         Ok(())
     }
 
@@ -195,4 +195,12 @@ fn note_statement(
         _ => {}
     }
     Ok(())
+}
+
+// The leaf after one that the key has.
+fn next_leaf(leaf: u32, capacity: u32) -> u32
+    requires { leaf < capacity }
+    ensures { result ≡ leaf + 1 }
+{
+    leaf + 1
 }
