@@ -39,6 +39,12 @@ pub accepted-kept : (c : Change) (rs : List Change) (t : Statement) → Has t (a
 accepted-kept (Accepted u quorum) rs t has = inr has
 accepted-kept _ rs t has = has
 
+-- what is made now was, or may be made
+pub made-newest : (d : Sites) (s : ℕ) (c : Change) (old : List Change) (t : Statement) → Allowed d s c old → Has t (made_of (c ∷ old)) → Has t (made_of old) ⊎ Makes d s t old
+made-newest d s (Made leaf u) old t allowed (inl same) = inr (subst (λ x. Makes d s x old) (sym same) allowed)
+made-newest d s (Made leaf u) old t allowed (inr has) = inl has
+made-newest d s _ old t allowed has = inl has
+
 -- ---- what is held is recorded
 
 -- a statement that was made has its record
@@ -84,13 +90,13 @@ union-recorded (c ∷ rs) t has = by_change c (union-recorded rs t) has
 -- ---- what was made
 
 -- What held when a statement was made, and each record more keeps, holds now.
-pub made-rule : (d : Sites) (s : ℕ) (t : Statement) (P : List Change → Type 0) → ((c : Change) (rs : List Change) → Allowed d s c rs → P rs → P (c ∷ rs)) → ((leaf : ℕ) (rs : List Change) → Makes d s t rs → P (Made leaf t ∷ rs)) → (rs : List Change) → History d s rs → Has t (made_of rs) → P rs
+pub made-rule : (d : Sites) (s : ℕ) (t : Statement) (P : List Change → Type 0) → ((c : Change) (rs : List Change) → Allowed d s c rs → P rs → P (c ∷ rs)) → ((leaf : ℕ) (rs : List Change) → History d s rs → Makes d s t rs → P (Made leaf t ∷ rs)) → (rs : List Change) → History d s rs → Has t (made_of rs) → P rs
 made-rule d s t P keeps start [] history has = absurd has
 made-rule d s t P keeps start (c ∷ rs) history has = by_change c history.0 (made-rule d s t P keeps start rs history.1) has
   where
     by_change : (x : Change) → Allowed d s x rs → (Has t (made_of rs) → P rs) → Has t (made_of (x ∷ rs)) → P (x ∷ rs)
     by_change (Made leaf u) allowed later (inl same) =
-        subst (λ y. P (Made leaf y ∷ rs)) same (start leaf rs (subst (λ y. Makes d s y rs) (sym same) allowed))
+        subst (λ y. P (Made leaf y ∷ rs)) same (start leaf rs history.1 (subst (λ y. Makes d s y rs) (sym same) allowed))
     by_change (Made leaf u) allowed later (inr has) = keeps (Made leaf u) rs allowed (later has)
     by_change x allowed later has = keeps x rs allowed (later has)
 
@@ -111,7 +117,7 @@ made-prepare d s s2 g l n v =
       view = omega (arith, before.view, view-kept d s c rs allowed);
       local = omega (arith, before.local, local-kept d s c rs allowed);
     })
-    (λ leaf rs makes. record {
+    (λ leaf rs history makes. record {
       site = makes.0;
       leads = makes.1.leads;
       view = omega (arith, makes.1.view);
@@ -134,7 +140,7 @@ made-proposal d s s2 g l n v =
       local = omega (arith, before.local, local-kept d s c rs allowed);
       prepared = prepared-kept c rs (prepare s g l n v) before.prepared;
     })
-    (λ leaf rs makes. record {
+    (λ leaf rs history makes. record {
       site = makes.0;
       view = omega (arith, makes.1.view);
       local = omega (arith, makes.1.local);
@@ -157,7 +163,7 @@ made-accept d s s2 g n v =
       local = before.local;
       accepted = accepted-kept c rs (proposal (leader d g) g before.local n v) before.accepted;
     })
-    (λ leaf rs makes. record {
+    (λ leaf rs history makes. record {
       site = makes.0;
       view = omega (arith, makes.1.view);
       local = makes.1.local;

@@ -21,7 +21,7 @@ use Rattle.st_agreement.specs.Worlds.{World, inside, outside}
 use Rattle.st_agreement.proofs.GrowLaws.{leader-lt, inside-grows, outside-grows}
 use Rattle.st_agreement.proofs.PrepareLaws.{may_stand-inside, may_stand-outside}
 use Rattle.st_agreement.proofs.VoiceLaws.{inside-well, outside-well}
-use Rattle.st_agreement.proofs.WorldLaws.{Extends, view-longer, local-longer, made-longer, made-fresh, history-longer, backed-longer, stands-kept, step-extends}
+use Rattle.st_agreement.proofs.WorldLaws.{Extends, own-kept, view-longer, local-longer, made-longer, made-fresh, history-longer, backed-longer, stands-kept, step-extends}
 
 -- ---- what stands behind a change stays there
 
@@ -76,6 +76,7 @@ maker-kept d old new s t step who =
 
 -- by the kind of the statement
 made-backed : (d : Sites) (old new : World) (s : ℕ) (t : Statement) → AreSites d → Extends d old new → s < d.sites → BackedMade d old s t → BackedMade d new s t
+made-backed d old new s (Prepare s2 g l n v) sites step exists backed = own-kept d old new v step backed
 made-backed d old new s (LocalUnion s2 l greatest base items) sites step exists backed = local_union-kept d old new s l.0 greatest.0 base items step exists backed
 made-backed d old new s (GlobalUnion s2 g base items) sites step exists backed = global_union-kept d old new s g.0 base items sites step exists backed
 made-backed d old new s _ sites step exists backed = backed

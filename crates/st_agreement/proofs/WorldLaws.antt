@@ -3,18 +3,21 @@ use Rattle.std.proofs.Common.{◌≡◌, ◌↔◌, ℕ, ◌+◌, ◌<◌, ◌�
 use Rattle.std.specs.List.{list_any}
 use Rattle.std.proofs.lemmas.Bool.{leb-true, le-leb, and_parts, eqb-true, eq-eqb}
 use Rattle.st_words.specs.declared.statement.Statement.{Statement}
+use Rattle.st_words.specs.declared.value.Update.{Update}
+use Rattle.st_words.specs.declared.value.Value.{Value}
+use Rattle.st_words.specs.declared.value.Value.TheVariants as values
 use Rattle.st_message.specs.declared.change.Change.{Change}
 use Rattle.st_message.specs.declared.change.Change.TheVariants.{EnterLocal, EnterGlobal, Made, Prepared, Accepted, Union, Executed}
 use Rattle.st_counts.specs.Counts.{Has, AllBut, Found, Shared, count}
 use Rattle.st_counts.proofs.CountLaws.{count-mono}
 use Rattle.st_counts.proofs.MemberLaws.{any-from, any-found}
 use Rattle.st_counts.proofs.QuorumLaws.{shared, all_but-found, all_but-majority}
-use Rattle.st_agreement.specs.MiniSteps.{Backed, IsCurrent, with_record, with_made, Records, Hands, MiniStep, records, hands}
+use Rattle.st_agreement.specs.MiniSteps.{Backed, IsCurrent, with_record, with_made, Records, Hands, with_update, MiniStep, records, hands, asks}
 use Rattle.st_agreement.specs.Records.{made_of, view_of, local_of}
 use Rattle.st_agreement.specs.Rules.{Allowed, History, Makes}
 use Rattle.st_agreement.specs.Sites.{Sites, AreSites, leader}
-use Rattle.st_agreement.specs.Worlds.{World, has_made, stands}
-use Rattle.st_agreement.proofs.HistoryLaws.{view-kept, local-kept, made-kept}
+use Rattle.st_agreement.specs.Worlds.{World, IsOwn, has_made, stands}
+use Rattle.st_agreement.proofs.HistoryLaws.{view-kept, local-kept, made-kept, made-newest}
 
 -- ---- standing
 
@@ -84,6 +87,7 @@ IsLonger d w s old new = (new ≡ old) ⊎ ((c : Change) × OneMore d w s c old 
 pub record Extends (d : Sites) (old new : World) : Type 0 where
   pub records : (s k : ℕ) → s < d.sites → Has k (d.correct s) → IsLonger d old s (old.records s k) (new.records s k)
   pub made : (s k : ℕ) → s < d.sites → Has k (d.correct s) → (t : Statement) → Has t (old.made s k) → Has t (new.made s k)
+  pub updates : (u : Update) → Has u old.updates → Has u new.updates
   pub fresh : (s k : ℕ) → s < d.sites → Has k (d.correct s) → (t : Statement) → Has t (new.made s k) → Has t (old.made s k) ⊎ (IsCurrent t (old.records s k) × Has t (made_of (old.records s k)))
 
 -- the view is not lower
@@ -102,11 +106,6 @@ made-longer d w s old new (inl same) t has = subst (λ (rs : List Change). Has t
 made-longer d w s old new (inr more) t has = subst (λ (rs : List Change). Has t (made_of rs)) (sym more.1.next) (made-kept more.0 old t has)
 
 -- what is made now was, or may be made
-made-newest : (d : Sites) (s : ℕ) (c : Change) (old : List Change) (t : Statement) → Allowed d s c old → Has t (made_of (c ∷ old)) → Has t (made_of old) ⊎ Makes d s t old
-made-newest d s (Made leaf u) old t allowed (inl same) = inr (subst (λ x. Makes d s x old) (sym same) allowed)
-made-newest d s (Made leaf u) old t allowed (inr has) = inl has
-made-newest d s _ old t allowed has = inl has
-
 pub made-fresh : (d : Sites) (w : World) (s : ℕ) (old new : List Change) → IsLonger d w s old new → (t : Statement) → Has t (made_of new) → Has t (made_of old) ⊎ Makes d s t old
 made-fresh d w s old new (inl same) t has = inl (subst (λ (rs : List Change). Has t (made_of rs)) same has)
 made-fresh d w s old new (inr more) t has =
@@ -163,6 +162,7 @@ with_record-extends d w s k c allowed backed =
     record {
       records = λ s2 k2 exists correct. with_record-longer d w s k c allowed backed s2 k2 (s2 == s && k2 == k) refl;
       made = λ s2 k2 exists correct t has. has;
+      updates = λ u has. has;
       fresh = λ s2 k2 exists correct t has. inl has;
     }
 
@@ -188,8 +188,24 @@ with_made-extends d w s k t current recorded =
     record {
       records = λ s2 k2 exists correct. inl refl;
       made = λ s2 k2 exists correct u has. with_made-kept (w.made s2 k2) t u (s2 == s && k2 == k) has;
+      updates = λ u has. has;
       fresh = λ s2 k2 exists correct u has. with_made-fresh w s k t current recorded s2 k2 u (s2 == s && k2 == k) refl has;
     }
+
+-- a client's update changes nothing of a server
+with_update-extends : (d : Sites) (w : World) (u : Update) → Extends d w (with_update w u)
+with_update-extends d w u =
+    record {
+      records = λ s k exists correct. inl refl;
+      made = λ s k exists correct t has. has;
+      updates = λ x has. inr has;
+      fresh = λ s k exists correct t has. inl has;
+    }
+
+-- what was a client's own update stays so
+pub own-kept : (d : Sites) (old new : World) (v : Value) → Extends d old new → IsOwn old v → IsOwn new v
+own-kept d old new values.Noop step own = own
+own-kept d old new (values.Update u) step own = step.updates u own
 
 -- each mini-step extends
 pub step-extends : (d : Sites) (old new : World) → MiniStep d old new → Extends d old new
@@ -197,3 +213,4 @@ step-extends d old new (records step) =
     subst (λ w. Extends d old w) (sym step.next) (with_record-extends d old step.site step.server step.change step.allowed step.backed)
 step-extends d old new (hands step) =
     subst (λ w. Extends d old w) (sym step.next) (with_made-extends d old step.site step.server step.statement step.current step.recorded)
+step-extends d old new (asks u next) = subst (λ w. Extends d old w) (sym next) (with_update-extends d old u)

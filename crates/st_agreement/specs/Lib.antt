@@ -1,7 +1,9 @@
 -- The definitions that contracts cite.
 pub mod MiniSteps
 pub mod Records
+pub mod Reports
 pub mod Rules
+pub mod Runs
 pub mod Sites
 pub mod Statements
 pub mod Unions
