@@ -1,9 +1,8 @@
 -- A mini-step only lets both flat worlds grow.
-use Rattle.std.proofs.Common.{◌≡◌, ℕ, ◌+◌, ◌*◌, ◌<◌, ◌≤◌, ◌⊎◌, ◌%◌, ◌&&◌, ◌||◌, not, Bool, true, false, IsTrue, List, length, refl, sym, ◌∙◌, ap, subst, inl, inr, ⊎_elim, arith, nat_lt, nat_le}
+use Rattle.std.proofs.Common.{◌≡◌, ℕ, ◌<◌, ◌≤◌, ◌⊎◌, ◌||◌, not, false, IsTrue, refl, subst, inl, inr, ⊎_elim, arith, nat_lt, nat_le}
 use Rattle.std.specs.List.{list_any}
 use Rattle.std.proofs.lemmas.Bool.{leb-true, le-leb, ltb-true, lt-ltb, and_parts, and_from, or_cases, or_left, or_right, not-true, not_from_false, false_from_ne_true, both_ways}
 use Rattle.st_words.specs.declared.value.Value.{Value}
-use Rattle.st_words.specs.declared.statement.Statement.{Statement}
 use Rattle.st_counts.specs.Counts.{Has, Found, count, numbers_below}
 use Rattle.st_counts.proofs.CountLaws.{count-mono}
 use Rattle.st_counts.proofs.MemberLaws.{any-from, any-found, any-mono, numbers_below-lt}
@@ -12,7 +11,7 @@ use Rattle.st_agreement.specs.MiniSteps.{IsCurrent}
 use Rattle.st_agreement.specs.Records.{view_of, local_of}
 use Rattle.st_agreement.specs.Sites.{Sites, AreSites, leader}
 use Rattle.st_agreement.specs.Statements.{proposal, accept, is_prepare, is_proposal, is_proposal_at, is_accept, is_accept_at, local_in, view_in}
-use Rattle.st_agreement.specs.Worlds.{World, has_made, stands, inside, outside, may_accept, is_proposed, are_accepting}
+use Rattle.st_agreement.specs.Worlds.{World, has_made, stands, inside, outside, may_accept, are_accepting}
 use Rattle.st_agreement.proofs.StatementLaws.{is_proposal_at-true, is_accept_at-true}
 use Rattle.st_agreement.proofs.WorldLaws.{Extends, view-longer, local-longer, has_made-kept, stands-kept}
 

@@ -1,16 +1,15 @@
 -- Facts of one server's records, each by an induction on them.
-use Rattle.std.proofs.Common.{◌≡◌, ℕ, ◌<◌, ◌≤◌, ◌⊎◌, List, [], ◌∷◌, refl, sym, ◌∙◌, ap, subst, inl, inr, ⊎_elim, arith}
+use Rattle.std.proofs.Common.{◌≡◌, ℕ, ◌≤◌, ◌⊎◌, List, [], ◌∷◌, sym, ap, subst, inl, inr, arith}
 use Rattle.st_words.specs.declared.value.Value.{Value}
-use Rattle.st_words.specs.declared.statement.Item.{Item}
 use Rattle.st_words.specs.declared.statement.Statement.{Statement}
 use Rattle.st_message.specs.declared.change.Change.{Change}
-use Rattle.st_message.specs.declared.change.Change.TheVariants.{EnterLocal, EnterGlobal, Made, Prepared, Accepted, Union, Executed}
+use Rattle.st_message.specs.declared.change.Change.TheVariants.{EnterLocal, EnterGlobal, Made, Prepared, Accepted, Union}
 use Rattle.st_seal.specs.declared.quorum.Quorum.{Quorum}
 use Rattle.st_counts.specs.Counts.{Has}
 use Rattle.st_agreement.specs.Records.{made_of, prepared_of, accepted_of, unions_of, view_of, local_of}
-use Rattle.st_agreement.specs.Rules.{Allowed, History, Makes, MakesPrepare, MakesProposal, MakesAccept}
+use Rattle.st_agreement.specs.Rules.{Allowed, History, Makes}
 use Rattle.st_agreement.specs.Sites.{Sites, leader}
-use Rattle.st_agreement.specs.Statements.{prepare, proposal, accept, local_union, global_union}
+use Rattle.st_agreement.specs.Statements.{prepare, proposal, accept}
 
 -- ---- one record more
 

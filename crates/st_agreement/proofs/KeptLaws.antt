@@ -1,19 +1,19 @@
 -- Each mini-step keeps the invariant. So along every run both flat worlds advance, and two executed
 -- values of a number are one.
-use Rattle.std.proofs.Common.{◌≡◌, ℕ, ◌<◌, ◌≤◌, ◌⊎◌, IsTrue, List, [], ◌∷◌, refl, sym, ◌∙◌, ap, subst, inl, inr, ⊎_elim, arith}
+use Rattle.std.proofs.Common.{◌≡◌, ℕ, ◌<◌, ◌≤◌, List, subst, ⊎_elim, arith}
 use Rattle.st_words.specs.declared.value.Value.{Value}
 use Rattle.st_words.specs.declared.statement.Item.{Item}
 use Rattle.st_words.specs.declared.statement.Statement.{Statement}
-use Rattle.st_words.specs.declared.statement.Statement.TheVariants.{Prepare, Proposal, Accept, LocalVc, GlobalVc, LocalReport, GlobalReport, LocalUnion, GlobalUnion, Reply, ClientUpdate}
+use Rattle.st_words.specs.declared.statement.Statement.TheVariants.{Prepare, Proposal, LocalUnion, GlobalUnion}
 use Rattle.st_message.specs.declared.change.Change.{Change}
-use Rattle.st_message.specs.declared.change.Change.TheVariants.{EnterLocal, EnterGlobal, Made, Prepared, Accepted, Union, Executed}
+use Rattle.st_message.specs.declared.change.Change.TheVariants.{Made, Prepared, Accepted, Union, Executed}
 use Rattle.st_counts.specs.Counts.{Has}
 use Rattle.st_registers.specs.Advances.{Advances}
 use Rattle.st_registers.specs.Tests.{Safe}
 use Rattle.st_registers.proofs.AdvancesLaws.{safe-kept, chosen-kept}
 use Rattle.st_agreement.specs.MiniSteps.{HasMaker, Backed, BackedMade, BackedPrepared, BackedAccepted, BackedUnion, Invariant, MiniStep}
-use Rattle.st_agreement.specs.Records.{made_of, view_of, local_of}
-use Rattle.st_agreement.specs.Rules.{Makes, MakesPrepare, Covers, CoversView}
+use Rattle.st_agreement.specs.Records.{view_of, local_of}
+use Rattle.st_agreement.specs.Rules.{Makes, MakesPrepare}
 use Rattle.st_agreement.specs.Sites.{Sites, AreSites, leader}
 use Rattle.st_agreement.specs.Statements.{prepare, proposal, accept, is_prepare, is_proposal}
 use Rattle.st_agreement.specs.Unions.{IsLocalUnion, IsGlobalUnion}

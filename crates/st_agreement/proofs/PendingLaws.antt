@@ -1,5 +1,5 @@
 -- What a server was to record stays allowed while others go on, and can be recorded.
-use Rattle.std.proofs.Common.{◌≡◌, ℕ, ◌<◌, ◌==◌, ◌&&◌, Bool, true, cond, List, [], ◌∷◌, refl, ap, subst, sym}
+use Rattle.std.proofs.Common.{◌≡◌, ℕ, ◌<◌, ◌==◌, cond, List, [], ◌∷◌, refl, ap, subst, sym}
 use Rattle.std.proofs.lemmas.Bool.{and_from, eq-eqb}
 use Rattle.st_message.specs.declared.change.Change.{Change}
 use Rattle.st_counts.specs.Counts.{Has}
@@ -9,7 +9,7 @@ use Rattle.st_agreement.specs.Runs.{MayRecord, recordings}
 use Rattle.st_agreement.specs.Sites.{Sites, AreSites}
 use Rattle.st_agreement.specs.Worlds.{World}
 use Rattle.st_agreement.proofs.KeptLaws.{backed-kept}
-use Rattle.st_agreement.proofs.WorldLaws.{Extends, step-extends, with_record-extends}
+use Rattle.st_agreement.proofs.WorldLaws.{Extends, with_record-extends}
 
 -- changes that wait stay allowed
 pub pending-kept : (d : Sites) (old new : World) (s : ℕ) (rs cs : List Change) → AreSites d → s < d.sites → Extends d old new → MayRecord d old s rs cs → MayRecord d new s rs cs

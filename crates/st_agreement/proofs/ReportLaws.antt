@@ -1,20 +1,18 @@
 -- The union of a bundle of reports is one over the reporters' records.
-use Rattle.std.proofs.Common.{◌≡◌, ℕ, ◌<◌, ◌≤◌, ◌⊎◌, ◌==◌, IsTrue, List, [], ◌∷◌, refl, sym, ◌∙◌, ap, subst, inl, inr, ⊎_elim, arith}
+use Rattle.std.proofs.Common.{◌≡◌, ℕ, ◌<◌, ◌≤◌, ◌⊎◌, ◌==◌, IsTrue, List, sym, ◌∙◌, subst, inl, inr, ⊎_elim, arith}
 use Rattle.std.specs.List.{list_any}
 use Rattle.std.proofs.lemmas.Bool.{eqb-true}
 use Rattle.st_words.specs.declared.value.Value.{Value}
 use Rattle.st_words.specs.declared.statement.Item.{Item}
-use Rattle.st_words.specs.declared.statement.Statement.{Statement}
 use Rattle.st_message.specs.declared.change.Change.{Change}
-use Rattle.st_message.specs.declared.change.Change.TheVariants.{Made}
 use Rattle.st_counts.specs.Counts.{Has, Found}
 use Rattle.st_counts.proofs.MemberLaws.{any-found}
 use Rattle.st_agreement.specs.MiniSteps.{Invariant}
-use Rattle.st_agreement.specs.Records.{made_of, prepared_of, accepted_of, view_of, local_of}
+use Rattle.st_agreement.specs.Records.{made_of, view_of, local_of}
 use Rattle.st_agreement.specs.Reports.{Report, local_report, global_report, IsUnion, IsLocalBundle, IsGlobalBundle}
-use Rattle.st_agreement.specs.Rules.{Allowed, History, Makes, Covers, CoversView}
+use Rattle.st_agreement.specs.Rules.{History, Makes, Covers, CoversView}
 use Rattle.st_agreement.specs.Sites.{Sites, leader}
-use Rattle.st_agreement.specs.Statements.{prepare, proposal, accept}
+use Rattle.st_agreement.specs.Statements.{proposal, accept}
 use Rattle.st_agreement.specs.Unions.{IsLocalUnion, IsGlobalUnion}
 use Rattle.st_agreement.specs.Worlds.{World}
 use Rattle.st_agreement.proofs.HistoryLaws.{made-rule, made-newest, made-proposal, made-accept, MadeProposal, MadeAccept, local-kept, view-kept}

@@ -1,12 +1,10 @@
 -- Along every run of mini-steps the invariant holds, both flat worlds advance, and executed values agree.
-use Rattle.std.proofs.Common.{◌≡◌, ℕ, ◌<◌, ◌⊎◌, false, true, IsTrue, List, [], ◌∷◌, refl, sym, ◌∙◌, ap, subst, inl, inr, ⊎_elim, arith, nat_lt}
+use Rattle.std.proofs.Common.{◌≡◌, ℕ, ◌<◌, ◌⊎◌, IsTrue, List, [], ◌∷◌, sym, ap, subst, inl, inr, arith}
 use Rattle.std.specs.List.{list_any}
 use Rattle.std.proofs.lemmas.Bool.{lt-ltb}
 use Rattle.st_words.specs.declared.value.Value.{Value}
-use Rattle.st_words.specs.declared.statement.Statement.{Statement}
-use Rattle.st_message.specs.declared.change.Change.{Change}
-use Rattle.st_message.specs.declared.change.Change.TheVariants.{EnterLocal, EnterGlobal, Made, Prepared, Accepted, Union, Executed}
-use Rattle.st_counts.specs.Counts.{Has, HasMajority, Found, numbers_below}
+use Rattle.st_message.specs.declared.change.Change.TheVariants.{Made, Executed}
+use Rattle.st_counts.specs.Counts.{Has, Found, numbers_below}
 use Rattle.st_counts.proofs.MemberLaws.{any-from, numbers_below-lt, length-numbers_below}
 use Rattle.st_counts.proofs.QuorumLaws.{majority-found}
 use Rattle.st_registers.specs.Advances.{Advances}
@@ -23,7 +21,7 @@ use Rattle.st_agreement.proofs.GrowLaws.{leader-lt}
 use Rattle.st_agreement.proofs.HistoryLaws.{made-recorded}
 use Rattle.st_agreement.proofs.KeptLaws.{step-invariant, step-inside, step-outside}
 use Rattle.st_agreement.proofs.StatementLaws.{is_prepare-true, is_accept-true}
-use Rattle.st_agreement.proofs.VoiceLaws.{inside-well, outside-well, stands-recorded, Proposed, accept-stands, proposal-prepared}
+use Rattle.st_agreement.proofs.VoiceLaws.{outside-well, stands-recorded, Proposed, accept-stands, proposal-prepared}
 use Rattle.st_agreement.proofs.WorldLaws.{Maker, maker}
 
 -- at first the invariant holds

@@ -1,25 +1,25 @@
 -- Under the invariant both flat worlds are well. So a leader site has one voice, and a number one value.
-use Rattle.std.proofs.Common.{◌≡◌, ℕ, ◌+◌, ◌*◌, ◌<◌, ◌≤◌, ◌⊎◌, ◌&&◌, not, Bool, true, false, IsTrue, List, length, refl, sym, ◌∙◌, ap, subst, inl, inr, ⊎_elim, arith, nat_lt}
+use Rattle.std.proofs.Common.{◌≡◌, ℕ, ◌+◌, ◌<◌, ◌≤◌, not, Bool, true, false, IsTrue, length, sym, ap, subst, arith}
 use Rattle.std.specs.List.{list_any}
-use Rattle.std.proofs.lemmas.Bool.{ltb-true, lt-ltb, and_parts, or_right, not-true, both_ways}
+use Rattle.std.proofs.lemmas.Bool.{ltb-true, and_parts, or_right, not-true, both_ways}
 use Rattle.st_words.specs.declared.value.Value.{Value}
 use Rattle.st_words.specs.declared.statement.Statement.{Statement}
-use Rattle.st_message.specs.declared.change.Change.TheVariants.{Made, Prepared, Accepted, Union, Executed}
+use Rattle.st_message.specs.declared.change.Change.TheVariants.{Prepared, Accepted}
 use Rattle.st_counts.specs.Counts.{Has, HasMajority, Found, count, numbers_below}
 use Rattle.st_counts.proofs.CountLaws.{count-mono}
 use Rattle.st_counts.proofs.MemberLaws.{any-from, any-found, any-mono, numbers_below-lt, length-numbers_below}
-use Rattle.st_counts.proofs.QuorumLaws.{all_but-majority, majority-found}
+use Rattle.st_counts.proofs.QuorumLaws.{all_but-majority}
 use Rattle.st_registers.specs.Advances.{IsWell}
 use Rattle.st_registers.specs.Tests.{Safe, IsChosen}
 use Rattle.st_registers.proofs.WellLaws.{one-chosen}
 use Rattle.st_agreement.specs.MiniSteps.{HasMaker, Invariant}
-use Rattle.st_agreement.specs.Records.{made_of, prepared_of, accepted_of}
+use Rattle.st_agreement.specs.Records.{made_of}
 use Rattle.st_agreement.specs.Sites.{Sites, AreSites, leader}
 use Rattle.st_agreement.specs.Statements.{prepare, proposal, accept, is_prepare, is_proposal, is_proposal_at, is_accept, is_accept_at, local_in, view_in}
 use Rattle.st_agreement.specs.Worlds.{World, has_made, stands, inside, outside, may_accept, is_proposed, are_accepting}
 use Rattle.st_agreement.proofs.GrowLaws.{leader-lt}
 use Rattle.st_agreement.proofs.HistoryLaws.{prepared-recorded, accepted-recorded, made-once, made-proposal, made-accept, MadeProposal, MadeAccept}
-use Rattle.st_agreement.proofs.StatementLaws.{is_prepare-true, is_proposal-true, is_proposal-at, is_accept-true, is_accept-at, is_proposal-refl}
+use Rattle.st_agreement.proofs.StatementLaws.{is_prepare-true, is_proposal-true, is_proposal-at, is_accept-true, is_accept-at}
 use Rattle.st_agreement.proofs.WorldLaws.{Maker, maker, Makers, makers, stands-fact}
 
 -- ---- from what stands to what is recorded

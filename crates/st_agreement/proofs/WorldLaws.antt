@@ -1,21 +1,19 @@
 -- What stands, and what of it a step keeps.
-use Rattle.std.proofs.Common.{◌≡◌, ◌↔◌, ℕ, ◌+◌, ◌<◌, ◌≤◌, ◌⊎◌, ◌==◌, ◌&&◌, Bool, true, false, cond, IsTrue, List, [], ◌∷◌, length, refl, sym, ◌∙◌, ap, subst, inl, inr, ⊎_elim, arith, nat_le}
-use Rattle.std.specs.List.{list_any}
-use Rattle.std.proofs.lemmas.Bool.{leb-true, le-leb, and_parts, eqb-true, eq-eqb}
+use Rattle.std.proofs.Common.{◌≡◌, ℕ, ◌<◌, ◌≤◌, ◌⊎◌, ◌==◌, ◌&&◌, Bool, true, false, cond, IsTrue, List, ◌∷◌, length, refl, sym, subst, inl, inr, arith}
+use Rattle.std.proofs.lemmas.Bool.{leb-true, le-leb, and_parts, eqb-true}
 use Rattle.st_words.specs.declared.statement.Statement.{Statement}
 use Rattle.st_words.specs.declared.value.Update.{Update}
 use Rattle.st_words.specs.declared.value.Value.{Value}
 use Rattle.st_words.specs.declared.value.Value.TheVariants as values
 use Rattle.st_message.specs.declared.change.Change.{Change}
-use Rattle.st_message.specs.declared.change.Change.TheVariants.{EnterLocal, EnterGlobal, Made, Prepared, Accepted, Union, Executed}
-use Rattle.st_counts.specs.Counts.{Has, AllBut, Found, Shared, count}
+use Rattle.st_counts.specs.Counts.{Has, AllBut, Found, Shared}
 use Rattle.st_counts.proofs.CountLaws.{count-mono}
 use Rattle.st_counts.proofs.MemberLaws.{any-from, any-found}
-use Rattle.st_counts.proofs.QuorumLaws.{shared, all_but-found, all_but-majority}
-use Rattle.st_agreement.specs.MiniSteps.{Backed, IsCurrent, with_record, with_made, Records, Hands, with_update, MiniStep, records, hands, asks}
+use Rattle.st_counts.proofs.QuorumLaws.{shared, all_but-found}
+use Rattle.st_agreement.specs.MiniSteps.{Backed, IsCurrent, with_record, with_made, with_update, MiniStep, records, hands, asks}
 use Rattle.st_agreement.specs.Records.{made_of, view_of, local_of}
 use Rattle.st_agreement.specs.Rules.{Allowed, History, Makes}
-use Rattle.st_agreement.specs.Sites.{Sites, AreSites, leader}
+use Rattle.st_agreement.specs.Sites.{Sites, AreSites}
 use Rattle.st_agreement.specs.Worlds.{World, IsOwn, has_made, stands}
 use Rattle.st_agreement.proofs.HistoryLaws.{view-kept, local-kept, made-kept, made-newest}
 

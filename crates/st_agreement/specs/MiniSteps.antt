@@ -4,11 +4,11 @@ use Rattle.std.specs.Prelude.{◌≡◌, ℕ, ◌<◌, ◌≤◌, ◌==◌, ◌&
 use Rattle.st_words.specs.declared.value.Update.{Update}
 use Rattle.st_words.specs.declared.value.Value.{Value}
 use Rattle.st_words.specs.declared.statement.Statement.{Statement}
-use Rattle.st_words.specs.declared.statement.Statement.TheVariants.{Prepare, Proposal, Accept, LocalVc, GlobalVc, LocalReport, GlobalReport, LocalUnion, GlobalUnion, Reply, ClientUpdate}
+use Rattle.st_words.specs.declared.statement.Statement.TheVariants.{Prepare, Proposal, Accept, LocalUnion, GlobalUnion}
 use Rattle.st_words.specs.declared.ids.Number.{Number}
 use Rattle.st_message.specs.declared.message.Proof.{Proof}
 use Rattle.st_message.specs.declared.change.Change.{Change}
-use Rattle.st_message.specs.declared.change.Change.TheVariants.{EnterLocal, EnterGlobal, Made, Prepared, Accepted, Union, Executed}
+use Rattle.st_message.specs.declared.change.Change.TheVariants.{Made, Prepared, Accepted, Union, Executed}
 use Rattle.st_counts.specs.Counts.{Has}
 use Rattle.st_registers.specs.Tests.{Safe, IsChosen}
 use Rattle.std.specs.Prelude.{IsTrue}

@@ -13,6 +13,7 @@ ghost use Rattle.st_counts.specs.Counts.{Has};
 ghost use Rattle.st_registers.specs.Advances.{Advances};
 ghost use Rattle.st_registers.specs.Steps.{IsRun};
 ghost use Rattle.st_registers.specs.Tests.{Safe};
+ghost use Rattle.st_agreement.specs.Example.{three, value, moves, plays, after};
 ghost use Rattle.st_agreement.specs.MiniSteps.{HasExecuted, Invariant, MiniStep, first};
 ghost use Rattle.st_agreement.specs.Reports.{Report, IsUnion, IsLocalBundle, IsGlobalBundle};
 ghost use Rattle.st_agreement.specs.Rules.{MayStand};
@@ -91,3 +92,30 @@ pub fn pending_changes()
         Has k (d.correct s) → MayRecord d w s (w.records s k) changes →
         IsRun (MiniStep d) w (recordings w s k changes) }
 {}
+
+/// The laws' premises can be met: a run in which three sites order an update through a change of view. The
+/// first site's server proposes and accepts it in view 0, and it is the other two that accept it in view 1.
+pub fn example_run()
+    ensures sites { AreSites three }
+    ensures run { IsRun (MiniStep three) first (plays first moves) }
+    ensures last { Has (after first moves) (plays first moves) }
+    ensures executed { HasExecuted three (after first moves) 1 value }
+{}
+
+#[cfg(test)]
+mod tests {
+    use super::*;
+
+    #[test]
+    fn laws_are_called() {
+        enough_correct();
+        invariant_kept();
+        prepared_values_are_safe();
+        flat_refinement();
+        one_voice();
+        agreement();
+        unions_of_reports();
+        pending_changes();
+        example_run();
+    }
+}
