@@ -38,10 +38,12 @@ past-from : (local view l g : ℕ) → IsTrue (nat_lt l local || nat_lt g view) 
 past-from local view l g passes =
     ⊎_elim (λ a. inl (ltb-true l local a)) (λ b. inr (ltb-true g view b)) (or_cases (nat_lt l local) (nat_lt g view) passes)
 
+-- and back
 past-to : (local view l g : ℕ) → (l < local) ⊎ (g < view) → IsTrue (nat_lt l local || nat_lt g view)
 past-to local view l g past =
     ⊎_elim (λ a. or_left _ _ (lt-ltb l local a)) (λ b. or_right _ _ (lt-ltb g view b)) past
 
+-- the flat world inside a leader site grows
 pub inside-grows : (d : Sites) (old new : World) → AreSites d → Extends d old new → (g n : ℕ) → Grows (inside d old g n) (inside d new g n)
 inside-grows d old new sites step g n =
     let s : ℕ = leader d g in
@@ -90,6 +92,7 @@ are_accepting-kept d old new n g v step most =
     (λ s among stand. stands-kept d old new s (is_accept s g n v) step (numbers_below-lt s d.sites among) stand) in
     lt-ltb _ _ (omega (arith, ltb-true _ _ most))
 
+-- the flat world of the sites grows
 pub outside-grows : (d : Sites) (old new : World) → AreSites d → Extends d old new → (n : ℕ) → Grows (outside d old n) (outside d new n)
 outside-grows d old new sites step n =
     record {

@@ -107,6 +107,7 @@ pub record MadePrepare (d : Sites) (s s2 g l : ℕ) (rs : List Change) : Type 0 
   pub view : g ≤ view_of rs
   pub local : l ≤ local_of rs
 
+-- so it is for each Prepare that was made
 pub made-prepare : (d : Sites) (s s2 g l n : ℕ) (v : Value) (rs : List Change) → History d s rs → Has (prepare s2 g l n v) (made_of rs) → MadePrepare d s s2 g l rs
 made-prepare d s s2 g l n v =
     made-rule d s (prepare s2 g l n v) (MadePrepare d s s2 g l)
@@ -130,6 +131,7 @@ pub record MadeProposal (s s2 g l n : ℕ) (v : Value) (rs : List Change) : Type
   pub local : l ≤ local_of rs
   pub prepared : Has (prepare s g l n v) (prepared_of rs)
 
+-- so it is for each Proposal that was made
 pub made-proposal : (d : Sites) (s s2 g l n : ℕ) (v : Value) (rs : List Change) → History d s rs → Has (proposal s2 g l n v) (made_of rs) → MadeProposal s s2 g l n v rs
 made-proposal d s s2 g l n v =
     made-rule d s (proposal s2 g l n v) (MadeProposal s s2 g l n v)
@@ -153,6 +155,7 @@ pub record MadeAccept (d : Sites) (s s2 g n : ℕ) (v : Value) (rs : List Change
   pub local : ℕ
   pub accepted : Has (proposal (leader d g) g local n v) (accepted_of rs)
 
+-- so it is for each Accept that was made
 pub made-accept : (d : Sites) (s s2 g n : ℕ) (v : Value) (rs : List Change) → History d s rs → Has (accept s2 g n v) (made_of rs) → MadeAccept d s s2 g n v rs
 made-accept d s s2 g n v =
     made-rule d s (accept s2 g n v) (MadeAccept d s s2 g n v)

@@ -24,6 +24,7 @@ pub record CoversLocal (s local base : ℕ) (items : List Item) (rs : List Chang
   pub entered : local ≤ local_of rs
   pub covers : (g l n : ℕ) (v : Value) → Has (proposal s g l n v) (made_of rs) → l < local → base < n → Covers items n g l
 
+-- so it is of each server that reported on a local view
 pub report-covers_local : (d : Sites) (s local : ℕ) (r : Report) (rs : List Change) → History d s rs → Has (local_report s local r) (made_of rs) → CoversLocal s local r.base r.items rs
 report-covers_local d s local r =
     made-rule d s (local_report s local r) (CoversLocal s local r.base r.items)
@@ -49,6 +50,7 @@ pub record CoversGlobal (s view base : ℕ) (items : List Item) (rs : List Chang
   pub entered : view ≤ view_of rs
   pub covers : (g n : ℕ) (v : Value) → Has (accept s g n v) (made_of rs) → g < view → base < n → CoversView items n g
 
+-- so it is of each server that reported on a view
 pub report-covers_global : (d : Sites) (s view : ℕ) (r : Report) (rs : List Change) → History d s rs → Has (global_report s view r) (made_of rs) → CoversGlobal s view r.base r.items rs
 report-covers_global d s view r =
     made-rule d s (global_report s view r) (CoversGlobal s view r.base r.items)
@@ -90,6 +92,7 @@ union-covers reports base items r n g l union among above covered =
       high = higher g l covered.item.view.0 covered.item.local.0 there.item.view.0 there.item.local.0 covered.high there.high;
     }
 
+-- the same, by views alone
 union-covers_view : (reports : List Report) (base : ℕ) (items : List Item) (r : Report) (n g : ℕ) → IsUnion reports base items → Has r reports → base < n → CoversView r.items n g → CoversView items n g
 union-covers_view reports base items r n g union among above covered =
     let over : base < covered.item.number.0 = subst (λ x. base < x) (sym covered.of_number) above in

@@ -48,6 +48,7 @@ pub record Proposed (d : Sites) (w : World) (g n : ℕ) (v : Value) : Type 0 whe
   pub local : ℕ
   pub stand : IsTrue (stands d w (leader d g) (is_proposal (leader d g) g local n v))
 
+-- so it is for each Accept that was made
 pub accept-stands : (d : Sites) (w : World) (s k g n : ℕ) (v : Value) → Invariant d w → s < d.sites → Has k (d.correct s) → Has (accept s g n v) (made_of (w.records s k)) → Proposed d w g n v
 accept-stands d w s k g n v inv exists correct made =
     let rule : MadeAccept d s s g n v (w.records s k) = made-accept d s s g n v (w.records s k) (inv.history s k exists correct) made in
@@ -86,6 +87,7 @@ one_prepare d w s g l n u v sites inv exists first second =
     (inv.recorded s both.server exists both.correct some.element some.among) in
     made-once d s g l n u v (w.records s both.server) (inv.history s both.server exists both.correct) (recorded u both.first) (recorded v both.second)
 
+-- the flat world inside a leader site is well
 pub inside-well : (d : Sites) (w : World) → AreSites d → Invariant d w → (g n : ℕ) → IsWell (inside d w g n)
 inside-well d w sites inv g n =
     let s : ℕ = leader d g in
@@ -142,6 +144,7 @@ is_proposed-from d w n g l v sites stand =
 pub accepting-chosen : (d : Sites) (w : World) (n g : ℕ) (v : Value) → IsTrue (are_accepting d w n g v) → HasMajority (numbers_below d.sites) (λ s. stands d w s (is_accept s g n v))
 accepting-chosen d w n g v most = omega (arith, ltb-true _ _ most, length-numbers_below d.sites)
 
+-- the flat world of the sites is well
 pub outside-well : (d : Sites) (w : World) → AreSites d → Invariant d w → (n : ℕ) → IsWell (outside d w n)
 outside-well d w sites inv n =
     record {

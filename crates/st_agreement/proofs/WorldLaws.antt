@@ -24,6 +24,7 @@ pub stands-fact : (d : Sites) (w : World) (s : ℕ) (test : Statement → Bool) 
 unfolding stands
 stands-fact d w s test stand = leb-true _ _ stand
 
+-- and back
 pub stands-from : (d : Sites) (w : World) (s : ℕ) (test : Statement → Bool) → AllBut (d.faults s) (d.correct s) (has_made w s test) → IsTrue (stands d w s test)
 unfolding stands
 stands-from d w s test most = le-leb _ _ most
@@ -57,6 +58,7 @@ pub record Makers (d : Sites) (w : World) (s : ℕ) (p q : Statement → Bool) :
   pub first : Found p (w.made s server)
   pub second : Found q (w.made s server)
 
+-- so it is of any two that stand
 pub makers : (d : Sites) (w : World) (s : ℕ) (p q : Statement → Bool) → AreSites d → s < d.sites → IsTrue (stands d w s p) → IsTrue (stands d w s q) → Makers d w s p q
 makers d w s p q sites exists first second =
     let both : Shared (has_made w s p) (has_made w s q) (d.correct s) =
@@ -154,6 +156,7 @@ with_record-longer d w s k c allowed backed s2 k2 true here =
     )
 with_record-longer d w s k c allowed backed s2 k2 false other = inl refl
 
+-- a record extends
 pub with_record-extends : (d : Sites) (w : World) (s k : ℕ) (c : Change) → Allowed d s c (w.records s k) → Backed d w s c → Extends d w (with_record w s k c)
 unfolding with_record
 with_record-extends d w s k c allowed backed =
@@ -164,11 +167,12 @@ with_record-extends d w s k c allowed backed =
       fresh = λ s2 k2 exists correct t has. inl has;
     }
 
--- what one server has handed out with one more, and all others as they were
+-- what was handed out before one statement more stays so
 with_made-kept : (ts : List Statement) (t u : Statement) (b : Bool) → Has u ts → Has u (cond b (t ∷ ts) ts)
 with_made-kept ts t u true has = inr has
 with_made-kept ts t u false has = has
 
+-- what is handed out now was, or is the one
 with_made-fresh : (w : World) (s k : ℕ) (t : Statement) → IsCurrent t (w.records s k) → Has t (made_of (w.records s k)) → (s2 k2 : ℕ) (u : Statement) (b : Bool) → (s2 == s && k2 == k) ≡ b → Has u (cond b (t ∷ w.made s2 k2) (w.made s2 k2)) → Has u (w.made s2 k2) ⊎ (IsCurrent u (w.records s2 k2) × Has u (made_of (w.records s2 k2)))
 with_made-fresh w s k t current recorded s2 k2 u true here (inl same) =
     let parts = and_parts (s2 == s) (k2 == k) here in
@@ -180,6 +184,7 @@ with_made-fresh w s k t current recorded s2 k2 u true here (inl same) =
 with_made-fresh w s k t current recorded s2 k2 u true here (inr has) = inl has
 with_made-fresh w s k t current recorded s2 k2 u false other has = inl has
 
+-- a statement that is handed out extends
 pub with_made-extends : (d : Sites) (w : World) (s k : ℕ) (t : Statement) → IsCurrent t (w.records s k) → Has t (made_of (w.records s k)) → Extends d w (with_made w s k t)
 unfolding with_made
 with_made-extends d w s k t current recorded =

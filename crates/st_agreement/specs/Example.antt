@@ -22,6 +22,7 @@ three = record { sites = 3; faults = λ s. 0; correct = λ s. 0 ∷ [] }
 abbrev pub update : Update
 update = record { client = record { 0 = 0 }; time = 1; op = 104 ∷ 105 ∷ [] }
 
+-- the value that is ordered
 abbrev pub value : Value
 value = values.Update update
 
@@ -29,12 +30,15 @@ value = values.Update update
 abbrev pub item : Item
 item = record { number = record { 0 = 1 }; view = record { 0 = 0 }; local = record { 0 = 0 }; value = value }
 
+-- the first site's union for view 1
 abbrev pub union : Statement
 union = global_union 0 1 0 (item ∷ [])
 
+-- the second site's, which has accepted nothing
 abbrev pub empty_union : Statement
 empty_union = global_union 1 1 0 []
 
+-- the proof by which it is executed; its seals don't matter here
 abbrev pub order_proof : Proof
 order_proof = record { view = record { 0 = 1 }; value = value; sites = [] }
 
@@ -44,6 +48,7 @@ pub data Move : Type 0 where
   Records : (site : ℕ) (c : Change) → Move
   Hands : (site : ℕ) (t : Statement) → Move
 
+-- the world after a move
 abbrev pub play : World → Move → World
 play w (Asks u) = with_update w u
 play w (Records s c) = with_record w s 0 c

@@ -18,10 +18,11 @@ pub record Report : Type 0 where
   pub base : ℕ
   pub items : List Item
 
--- the statements that they are
+-- the statement that a report on a local view is
 abbrev pub local_report : (site local : ℕ) → Report → Statement
 local_report s l r = LocalReport (record { 0 = s }) (record { 0 = l }) r.server (record { 0 = r.view }) r.base r.items
 
+-- the statement that a report on a view is
 abbrev pub global_report : (site view : ℕ) → Report → Statement
 global_report s g r = GlobalReport (record { 0 = s }) (record { 0 = g }) r.server r.base r.items
 
