@@ -1,9 +1,8 @@
 -- A mini-step only lets both flat worlds grow.
-use Rattle.std.proofs.Common.{◌≡◌, ℕ, ◌+◌, ◌*◌, ◌<◌, ◌≤◌, ◌⊎◌, ◌%◌, ◌&&◌, ◌||◌, not, Bool, true, false, IsTrue, List, length, refl, sym, ◌∙◌, ap, subst, inl, inr, ⊎_elim, arith, nat_lt, nat_le}
+use Rattle.std.proofs.Common.{◌≡◌, ℕ, ◌<◌, ◌≤◌, ◌⊎◌, ◌||◌, not, false, IsTrue, refl, subst, inl, inr, ⊎_elim, arith, nat_lt, nat_le}
 use Rattle.std.specs.List.{list_any}
 use Rattle.std.proofs.lemmas.Bool.{leb-true, le-leb, ltb-true, lt-ltb, and_parts, and_from, or_cases, or_left, or_right, not-true, not_from_false, false_from_ne_true, both_ways}
 use Rattle.st_words.specs.declared.value.Value.{Value}
-use Rattle.st_words.specs.declared.statement.Statement.{Statement}
 use Rattle.st_counts.specs.Counts.{Has, Found, count, numbers_below}
 use Rattle.st_counts.proofs.CountLaws.{count-mono}
 use Rattle.st_counts.proofs.MemberLaws.{any-from, any-found, any-mono, numbers_below-lt}
@@ -12,7 +11,7 @@ use Rattle.st_agreement.specs.MiniSteps.{IsCurrent}
 use Rattle.st_agreement.specs.Records.{view_of, local_of}
 use Rattle.st_agreement.specs.Sites.{Sites, AreSites, leader}
 use Rattle.st_agreement.specs.Statements.{proposal, accept, is_prepare, is_proposal, is_proposal_at, is_accept, is_accept_at, local_in, view_in}
-use Rattle.st_agreement.specs.Worlds.{World, has_made, stands, inside, outside, may_accept, is_proposed, are_accepting}
+use Rattle.st_agreement.specs.Worlds.{World, has_made, stands, inside, outside, may_accept, are_accepting}
 use Rattle.st_agreement.proofs.StatementLaws.{is_proposal_at-true, is_accept_at-true}
 use Rattle.st_agreement.proofs.WorldLaws.{Extends, view-longer, local-longer, has_made-kept, stands-kept}
 
@@ -39,10 +38,12 @@ past-from : (local view l g : ℕ) → IsTrue (nat_lt l local || nat_lt g view) 
 past-from local view l g passes =
     ⊎_elim (λ a. inl (ltb-true l local a)) (λ b. inr (ltb-true g view b)) (or_cases (nat_lt l local) (nat_lt g view) passes)
 
+-- and back
 past-to : (local view l g : ℕ) → (l < local) ⊎ (g < view) → IsTrue (nat_lt l local || nat_lt g view)
 past-to local view l g past =
     ⊎_elim (λ a. or_left _ _ (lt-ltb l local a)) (λ b. or_right _ _ (lt-ltb g view b)) past
 
+-- the flat world inside a leader site grows
 pub inside-grows : (d : Sites) (old new : World) → AreSites d → Extends d old new → (g n : ℕ) → Grows (inside d old g n) (inside d new g n)
 inside-grows d old new sites step g n =
     let s : ℕ = leader d g in
@@ -91,6 +92,7 @@ are_accepting-kept d old new n g v step most =
     (λ s among stand. stands-kept d old new s (is_accept s g n v) step (numbers_below-lt s d.sites among) stand) in
     lt-ltb _ _ (omega (arith, ltb-true _ _ most))
 
+-- the flat world of the sites grows
 pub outside-grows : (d : Sites) (old new : World) → AreSites d → Extends d old new → (n : ℕ) → Grows (outside d old n) (outside d new n)
 outside-grows d old new sites step n =
     record {

@@ -1,16 +1,15 @@
 -- Facts of one server's records, each by an induction on them.
-use Rattle.std.proofs.Common.{◌≡◌, ℕ, ◌<◌, ◌≤◌, ◌⊎◌, List, [], ◌∷◌, refl, sym, ◌∙◌, ap, subst, inl, inr, ⊎_elim, arith}
+use Rattle.std.proofs.Common.{◌≡◌, ℕ, ◌≤◌, ◌⊎◌, List, [], ◌∷◌, sym, ap, subst, inl, inr, arith}
 use Rattle.st_words.specs.declared.value.Value.{Value}
-use Rattle.st_words.specs.declared.statement.Item.{Item}
 use Rattle.st_words.specs.declared.statement.Statement.{Statement}
 use Rattle.st_message.specs.declared.change.Change.{Change}
-use Rattle.st_message.specs.declared.change.Change.TheVariants.{EnterLocal, EnterGlobal, Made, Prepared, Accepted, Union, Executed}
+use Rattle.st_message.specs.declared.change.Change.TheVariants.{EnterLocal, EnterGlobal, Made, Prepared, Accepted, Union}
 use Rattle.st_seal.specs.declared.quorum.Quorum.{Quorum}
 use Rattle.st_counts.specs.Counts.{Has}
 use Rattle.st_agreement.specs.Records.{made_of, prepared_of, accepted_of, unions_of, view_of, local_of}
-use Rattle.st_agreement.specs.Rules.{Allowed, History, Makes, MakesPrepare, MakesProposal, MakesAccept}
+use Rattle.st_agreement.specs.Rules.{Allowed, History, Makes}
 use Rattle.st_agreement.specs.Sites.{Sites, leader}
-use Rattle.st_agreement.specs.Statements.{prepare, proposal, accept, local_union, global_union}
+use Rattle.st_agreement.specs.Statements.{prepare, proposal, accept}
 
 -- ---- one record more
 
@@ -38,6 +37,12 @@ prepared-kept _ rs t has = has
 pub accepted-kept : (c : Change) (rs : List Change) (t : Statement) → Has t (accepted_of rs) → Has t (accepted_of (c ∷ rs))
 accepted-kept (Accepted u quorum) rs t has = inr has
 accepted-kept _ rs t has = has
+
+-- what is made now was, or may be made
+pub made-newest : (d : Sites) (s : ℕ) (c : Change) (old : List Change) (t : Statement) → Allowed d s c old → Has t (made_of (c ∷ old)) → Has t (made_of old) ⊎ Makes d s t old
+made-newest d s (Made leaf u) old t allowed (inl same) = inr (subst (λ x. Makes d s x old) (sym same) allowed)
+made-newest d s (Made leaf u) old t allowed (inr has) = inl has
+made-newest d s _ old t allowed has = inl has
 
 -- ---- what is held is recorded
 
@@ -84,13 +89,13 @@ union-recorded (c ∷ rs) t has = by_change c (union-recorded rs t) has
 -- ---- what was made
 
 -- What held when a statement was made, and each record more keeps, holds now.
-pub made-rule : (d : Sites) (s : ℕ) (t : Statement) (P : List Change → Type 0) → ((c : Change) (rs : List Change) → Allowed d s c rs → P rs → P (c ∷ rs)) → ((leaf : ℕ) (rs : List Change) → Makes d s t rs → P (Made leaf t ∷ rs)) → (rs : List Change) → History d s rs → Has t (made_of rs) → P rs
+pub made-rule : (d : Sites) (s : ℕ) (t : Statement) (P : List Change → Type 0) → ((c : Change) (rs : List Change) → Allowed d s c rs → P rs → P (c ∷ rs)) → ((leaf : ℕ) (rs : List Change) → History d s rs → Makes d s t rs → P (Made leaf t ∷ rs)) → (rs : List Change) → History d s rs → Has t (made_of rs) → P rs
 made-rule d s t P keeps start [] history has = absurd has
 made-rule d s t P keeps start (c ∷ rs) history has = by_change c history.0 (made-rule d s t P keeps start rs history.1) has
   where
     by_change : (x : Change) → Allowed d s x rs → (Has t (made_of rs) → P rs) → Has t (made_of (x ∷ rs)) → P (x ∷ rs)
     by_change (Made leaf u) allowed later (inl same) =
-        subst (λ y. P (Made leaf y ∷ rs)) same (start leaf rs (subst (λ y. Makes d s y rs) (sym same) allowed))
+        subst (λ y. P (Made leaf y ∷ rs)) same (start leaf rs history.1 (subst (λ y. Makes d s y rs) (sym same) allowed))
     by_change (Made leaf u) allowed later (inr has) = keeps (Made leaf u) rs allowed (later has)
     by_change x allowed later has = keeps x rs allowed (later has)
 
@@ -102,6 +107,7 @@ pub record MadePrepare (d : Sites) (s s2 g l : ℕ) (rs : List Change) : Type 0 
   pub view : g ≤ view_of rs
   pub local : l ≤ local_of rs
 
+-- so it is for each Prepare that was made
 pub made-prepare : (d : Sites) (s s2 g l n : ℕ) (v : Value) (rs : List Change) → History d s rs → Has (prepare s2 g l n v) (made_of rs) → MadePrepare d s s2 g l rs
 made-prepare d s s2 g l n v =
     made-rule d s (prepare s2 g l n v) (MadePrepare d s s2 g l)
@@ -111,7 +117,7 @@ made-prepare d s s2 g l n v =
       view = omega (arith, before.view, view-kept d s c rs allowed);
       local = omega (arith, before.local, local-kept d s c rs allowed);
     })
-    (λ leaf rs makes. record {
+    (λ leaf rs history makes. record {
       site = makes.0;
       leads = makes.1.leads;
       view = omega (arith, makes.1.view);
@@ -125,6 +131,7 @@ pub record MadeProposal (s s2 g l n : ℕ) (v : Value) (rs : List Change) : Type
   pub local : l ≤ local_of rs
   pub prepared : Has (prepare s g l n v) (prepared_of rs)
 
+-- so it is for each Proposal that was made
 pub made-proposal : (d : Sites) (s s2 g l n : ℕ) (v : Value) (rs : List Change) → History d s rs → Has (proposal s2 g l n v) (made_of rs) → MadeProposal s s2 g l n v rs
 made-proposal d s s2 g l n v =
     made-rule d s (proposal s2 g l n v) (MadeProposal s s2 g l n v)
@@ -134,7 +141,7 @@ made-proposal d s s2 g l n v =
       local = omega (arith, before.local, local-kept d s c rs allowed);
       prepared = prepared-kept c rs (prepare s g l n v) before.prepared;
     })
-    (λ leaf rs makes. record {
+    (λ leaf rs history makes. record {
       site = makes.0;
       view = omega (arith, makes.1.view);
       local = omega (arith, makes.1.local);
@@ -148,6 +155,7 @@ pub record MadeAccept (d : Sites) (s s2 g n : ℕ) (v : Value) (rs : List Change
   pub local : ℕ
   pub accepted : Has (proposal (leader d g) g local n v) (accepted_of rs)
 
+-- so it is for each Accept that was made
 pub made-accept : (d : Sites) (s s2 g n : ℕ) (v : Value) (rs : List Change) → History d s rs → Has (accept s2 g n v) (made_of rs) → MadeAccept d s s2 g n v rs
 made-accept d s s2 g n v =
     made-rule d s (accept s2 g n v) (MadeAccept d s s2 g n v)
@@ -157,7 +165,7 @@ made-accept d s s2 g n v =
       local = before.local;
       accepted = accepted-kept c rs (proposal (leader d g) g before.local n v) before.accepted;
     })
-    (λ leaf rs makes. record {
+    (λ leaf rs history makes. record {
       site = makes.0;
       view = omega (arith, makes.1.view);
       local = makes.1.local;

@@ -1,19 +1,19 @@
 -- Each mini-step keeps the invariant. So along every run both flat worlds advance, and two executed
 -- values of a number are one.
-use Rattle.std.proofs.Common.{◌≡◌, ℕ, ◌<◌, ◌≤◌, ◌⊎◌, IsTrue, List, [], ◌∷◌, refl, sym, ◌∙◌, ap, subst, inl, inr, ⊎_elim, arith}
+use Rattle.std.proofs.Common.{◌≡◌, ℕ, ◌<◌, ◌≤◌, List, subst, ⊎_elim, arith}
 use Rattle.st_words.specs.declared.value.Value.{Value}
 use Rattle.st_words.specs.declared.statement.Item.{Item}
 use Rattle.st_words.specs.declared.statement.Statement.{Statement}
-use Rattle.st_words.specs.declared.statement.Statement.TheVariants.{Prepare, Proposal, Accept, LocalVc, GlobalVc, LocalReport, GlobalReport, LocalUnion, GlobalUnion, Reply, ClientUpdate}
+use Rattle.st_words.specs.declared.statement.Statement.TheVariants.{Prepare, Proposal, LocalUnion, GlobalUnion}
 use Rattle.st_message.specs.declared.change.Change.{Change}
-use Rattle.st_message.specs.declared.change.Change.TheVariants.{EnterLocal, EnterGlobal, Made, Prepared, Accepted, Union, Executed}
+use Rattle.st_message.specs.declared.change.Change.TheVariants.{Made, Prepared, Accepted, Union, Executed}
 use Rattle.st_counts.specs.Counts.{Has}
 use Rattle.st_registers.specs.Advances.{Advances}
 use Rattle.st_registers.specs.Tests.{Safe}
 use Rattle.st_registers.proofs.AdvancesLaws.{safe-kept, chosen-kept}
 use Rattle.st_agreement.specs.MiniSteps.{HasMaker, Backed, BackedMade, BackedPrepared, BackedAccepted, BackedUnion, Invariant, MiniStep}
-use Rattle.st_agreement.specs.Records.{made_of, view_of, local_of}
-use Rattle.st_agreement.specs.Rules.{Makes, MakesPrepare, Covers, CoversView}
+use Rattle.st_agreement.specs.Records.{view_of, local_of}
+use Rattle.st_agreement.specs.Rules.{Makes, MakesPrepare}
 use Rattle.st_agreement.specs.Sites.{Sites, AreSites, leader}
 use Rattle.st_agreement.specs.Statements.{prepare, proposal, accept, is_prepare, is_proposal}
 use Rattle.st_agreement.specs.Unions.{IsLocalUnion, IsGlobalUnion}
@@ -21,7 +21,7 @@ use Rattle.st_agreement.specs.Worlds.{World, inside, outside}
 use Rattle.st_agreement.proofs.GrowLaws.{leader-lt, inside-grows, outside-grows}
 use Rattle.st_agreement.proofs.PrepareLaws.{may_stand-inside, may_stand-outside}
 use Rattle.st_agreement.proofs.VoiceLaws.{inside-well, outside-well}
-use Rattle.st_agreement.proofs.WorldLaws.{Extends, view-longer, local-longer, made-longer, made-fresh, history-longer, backed-longer, stands-kept, step-extends}
+use Rattle.st_agreement.proofs.WorldLaws.{Extends, own-kept, view-longer, local-longer, made-longer, made-fresh, history-longer, backed-longer, stands-kept, step-extends}
 
 -- ---- what stands behind a change stays there
 
@@ -74,21 +74,25 @@ maker-kept d old new s t step who =
       recorded = made-longer d old s (old.records s who.server) (new.records s who.server) (step.records s who.server who.exists who.correct) t who.recorded;
     }
 
--- by the kind of the statement
+-- what stands behind a statement that was made
 made-backed : (d : Sites) (old new : World) (s : ℕ) (t : Statement) → AreSites d → Extends d old new → s < d.sites → BackedMade d old s t → BackedMade d new s t
+made-backed d old new s (Prepare s2 g l n v) sites step exists backed = own-kept d old new v step backed
 made-backed d old new s (LocalUnion s2 l greatest base items) sites step exists backed = local_union-kept d old new s l.0 greatest.0 base items step exists backed
 made-backed d old new s (GlobalUnion s2 g base items) sites step exists backed = global_union-kept d old new s g.0 base items sites step exists backed
 made-backed d old new s _ sites step exists backed = backed
 
+-- behind a prepared Prepare
 prepared-backed : (d : Sites) (old new : World) (s : ℕ) (t : Statement) → Extends d old new → s < d.sites → BackedPrepared d old s t → BackedPrepared d new s t
 prepared-backed d old new s (Prepare s2 g l n v) step exists backed = stands-kept d old new s (is_prepare s g.0 l.0 n.0 v) step exists backed
 prepared-backed d old new s _ step exists backed = backed
 
+-- behind an accepted Proposal
 accepted-backed : (d : Sites) (old new : World) (t : Statement) → AreSites d → Extends d old new → BackedAccepted d old t → BackedAccepted d new t
 accepted-backed d old new (Proposal s2 g l n v) sites step backed =
     stands-kept d old new (leader d g.0) (is_proposal (leader d g.0) g.0 l.0 n.0 v) step (leader-lt d g.0 sites) backed
 accepted-backed d old new _ sites step backed = backed
 
+-- behind a union that is held
 union-backed : (d : Sites) (old new : World) (t : Statement) → Extends d old new → BackedUnion d old t → BackedUnion d new t
 union-backed d old new (LocalUnion s2 l greatest base items) step backed = maker-kept d old new s2.0 (LocalUnion s2 l greatest base items) step backed
 union-backed d old new (GlobalUnion s2 g base items) step backed = maker-kept d old new s2.0 (GlobalUnion s2 g base items) step backed
@@ -142,7 +146,7 @@ invariant-kept d old new sites inv step =
 pub step-invariant : (d : Sites) (old new : World) → AreSites d → Invariant d old → MiniStep d old new → Invariant d new
 step-invariant d old new sites inv step = invariant-kept d old new sites inv (step-extends d old new step)
 
--- and lets both flat worlds advance
+-- and lets the flat world inside each leader site advance
 pub step-inside : (d : Sites) (old new : World) → AreSites d → Invariant d old → MiniStep d old new → (g n : ℕ) → Advances (inside d old g n) (inside d new g n)
 step-inside d old new sites inv step g n =
     record {
@@ -150,6 +154,7 @@ step-inside d old new sites inv step g n =
       well = inside-well d new sites (step-invariant d old new sites inv step) g n;
     }
 
+-- and that of the sites
 pub step-outside : (d : Sites) (old new : World) → AreSites d → Invariant d old → MiniStep d old new → (n : ℕ) → Advances (outside d old n) (outside d new n)
 step-outside d old new sites inv step n =
     record {

@@ -1,8 +1,12 @@
 -- Lemmas.
+pub mod ExampleLaws
 pub mod GrowLaws
 pub mod HistoryLaws
 pub mod KeptLaws
+pub mod PendingLaws
 pub mod PrepareLaws
+pub mod ReportLaws
+pub mod RunLaws
 pub mod StatementLaws
 pub mod VoiceLaws
 pub mod WorldLaws

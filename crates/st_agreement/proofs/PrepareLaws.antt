@@ -1,20 +1,19 @@
 -- A value that may stand is safe: what is not covered by a union is closed.
-use Rattle.std.proofs.Common.{◌≡◌, ℕ, ◌+◌, ◌*◌, ◌/◌, ◌<◌, ◌≤◌, ◌⊎◌, ◌&&◌, ◌||◌, not, Bool, true, false, IsTrue, List, length, map, refl, sym, ◌∙◌, ap, subst, inl, inr, ⊎_elim, arith, nat_lt, nat_le}
+use Rattle.std.proofs.Common.{◌≡◌, ℕ, ◌+◌, ◌*◌, ◌/◌, ◌<◌, ◌≤◌, ◌⊎◌, ◌&&◌, ◌||◌, not, false, IsTrue, List, length, map, sym, ◌∙◌, ap, subst, inl, inr, ⊎_elim, arith, nat_lt, nat_le}
 use Rattle.std.proofs.lemmas.List.{length-map}
-use Rattle.std.proofs.lemmas.Bool.{leb-true, ltb-true, lt-ltb, and_parts, and_from, or_cases, or_left, not_from_false, false_from_ne_true, cases_order}
+use Rattle.std.proofs.lemmas.Bool.{leb-true, lt-ltb, and_from, or_cases, or_left, not_from_false, false_from_ne_true, cases_order}
 use Rattle.st_words.specs.declared.value.Value.{Value}
 use Rattle.st_words.specs.declared.statement.Item.{Item}
 use Rattle.st_words.specs.declared.statement.Statement.{Statement}
-use Rattle.st_message.specs.declared.change.Change.{Change}
-use Rattle.st_message.specs.declared.change.Change.TheVariants.{Made, Prepared, Accepted, Union, Executed}
-use Rattle.st_counts.specs.Counts.{Has, AllBut, HasMajority, Found, count, numbers_below}
+use Rattle.st_message.specs.declared.change.Change.TheVariants.{Made, Union}
+use Rattle.st_counts.specs.Counts.{Has, HasMajority, Found, count, numbers_below}
 use Rattle.st_counts.proofs.CountLaws.{count-disjoint}
 use Rattle.st_counts.proofs.MemberLaws.{any-found, has-numbers_below, length-numbers_below, map-has}
 use Rattle.st_counts.proofs.QuorumLaws.{all_but-majority, all_but-mono, sites-majority}
 use Rattle.st_registers.specs.Tests.{Safe}
 use Rattle.st_agreement.specs.MiniSteps.{HasMaker, Invariant}
 use Rattle.st_agreement.specs.Records.{made_of, unions_of, view_of, local_of}
-use Rattle.st_agreement.specs.Rules.{Covers, CoversView, HeldLocal, SiteUnion, HeldSites, ForcedByLocal, FreeOfLocal, ForcedBySites, FreeOfSites, FollowsSites, MayStand}
+use Rattle.st_agreement.specs.Rules.{Covers, CoversView, HeldLocal, SiteUnion, HeldSites, ForcedByLocal, FreeOfLocal, ForcedBySites, FollowsSites, MayStand}
 use Rattle.st_agreement.specs.Sites.{Sites, AreSites, leader}
 use Rattle.st_agreement.specs.Statements.{proposal, accept, local_union, global_union, is_prepare, is_proposal, is_proposal_at, is_accept_at}
 use Rattle.st_agreement.specs.Unions.{IsLocalUnion, IsGlobalUnion}

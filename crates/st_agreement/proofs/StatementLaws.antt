@@ -1,10 +1,9 @@
 -- The tests of statements find just what they are named for.
-use Rattle.std.proofs.Common.{◌≡◌, ℕ, ◌==◌, ◌&&◌, Bool, true, false, IsTrue, refl, sym, ap, subst, ◌∙◌}
+use Rattle.std.proofs.Common.{◌≡◌, ℕ, true, false, IsTrue, refl}
 use Rattle.std.proofs.lemmas.Bool.{and_parts, and_from, eqb-true, eq-eqb}
 use Rattle.st_words.specs.declared.value.Value.{Value}
 use Rattle.st_words.specs.declared.statement.Statement.{Statement}
 use Rattle.st_words.specs.declared.statement.Statement.TheVariants.{Prepare, Proposal, Accept}
-use Rattle.st_registers.specs.Values.{value_eq}
 use Rattle.st_registers.proofs.ValueLaws.{value_eq-true, value_eq-refl}
 use Rattle.st_agreement.specs.Statements.{prepare, proposal, accept, is_prepare, is_proposal, is_proposal_at, is_accept, is_accept_at}
 

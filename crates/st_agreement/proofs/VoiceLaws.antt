@@ -1,25 +1,25 @@
 -- Under the invariant both flat worlds are well. So a leader site has one voice, and a number one value.
-use Rattle.std.proofs.Common.{◌≡◌, ℕ, ◌+◌, ◌*◌, ◌<◌, ◌≤◌, ◌⊎◌, ◌&&◌, not, Bool, true, false, IsTrue, List, length, refl, sym, ◌∙◌, ap, subst, inl, inr, ⊎_elim, arith, nat_lt}
+use Rattle.std.proofs.Common.{◌≡◌, ℕ, ◌+◌, ◌<◌, ◌≤◌, not, Bool, true, false, IsTrue, length, sym, ap, subst, arith}
 use Rattle.std.specs.List.{list_any}
-use Rattle.std.proofs.lemmas.Bool.{ltb-true, lt-ltb, and_parts, or_right, not-true, both_ways}
+use Rattle.std.proofs.lemmas.Bool.{ltb-true, and_parts, or_right, not-true, both_ways}
 use Rattle.st_words.specs.declared.value.Value.{Value}
 use Rattle.st_words.specs.declared.statement.Statement.{Statement}
-use Rattle.st_message.specs.declared.change.Change.TheVariants.{Made, Prepared, Accepted, Union, Executed}
+use Rattle.st_message.specs.declared.change.Change.TheVariants.{Prepared, Accepted}
 use Rattle.st_counts.specs.Counts.{Has, HasMajority, Found, count, numbers_below}
 use Rattle.st_counts.proofs.CountLaws.{count-mono}
 use Rattle.st_counts.proofs.MemberLaws.{any-from, any-found, any-mono, numbers_below-lt, length-numbers_below}
-use Rattle.st_counts.proofs.QuorumLaws.{all_but-majority, majority-found}
+use Rattle.st_counts.proofs.QuorumLaws.{all_but-majority}
 use Rattle.st_registers.specs.Advances.{IsWell}
 use Rattle.st_registers.specs.Tests.{Safe, IsChosen}
 use Rattle.st_registers.proofs.WellLaws.{one-chosen}
 use Rattle.st_agreement.specs.MiniSteps.{HasMaker, Invariant}
-use Rattle.st_agreement.specs.Records.{made_of, prepared_of, accepted_of}
+use Rattle.st_agreement.specs.Records.{made_of}
 use Rattle.st_agreement.specs.Sites.{Sites, AreSites, leader}
 use Rattle.st_agreement.specs.Statements.{prepare, proposal, accept, is_prepare, is_proposal, is_proposal_at, is_accept, is_accept_at, local_in, view_in}
 use Rattle.st_agreement.specs.Worlds.{World, has_made, stands, inside, outside, may_accept, is_proposed, are_accepting}
 use Rattle.st_agreement.proofs.GrowLaws.{leader-lt}
 use Rattle.st_agreement.proofs.HistoryLaws.{prepared-recorded, accepted-recorded, made-once, made-proposal, made-accept, MadeProposal, MadeAccept}
-use Rattle.st_agreement.proofs.StatementLaws.{is_prepare-true, is_proposal-true, is_proposal-at, is_accept-true, is_accept-at, is_proposal-refl}
+use Rattle.st_agreement.proofs.StatementLaws.{is_prepare-true, is_proposal-true, is_proposal-at, is_accept-true, is_accept-at}
 use Rattle.st_agreement.proofs.WorldLaws.{Maker, maker, Makers, makers, stands-fact}
 
 -- ---- from what stands to what is recorded
@@ -48,6 +48,7 @@ pub record Proposed (d : Sites) (w : World) (g n : ℕ) (v : Value) : Type 0 whe
   pub local : ℕ
   pub stand : IsTrue (stands d w (leader d g) (is_proposal (leader d g) g local n v))
 
+-- so it is for each Accept that was made
 pub accept-stands : (d : Sites) (w : World) (s k g n : ℕ) (v : Value) → Invariant d w → s < d.sites → Has k (d.correct s) → Has (accept s g n v) (made_of (w.records s k)) → Proposed d w g n v
 accept-stands d w s k g n v inv exists correct made =
     let rule : MadeAccept d s s g n v (w.records s k) = made-accept d s s g n v (w.records s k) (inv.history s k exists correct) made in
@@ -86,6 +87,7 @@ one_prepare d w s g l n u v sites inv exists first second =
     (inv.recorded s both.server exists both.correct some.element some.among) in
     made-once d s g l n u v (w.records s both.server) (inv.history s both.server exists both.correct) (recorded u both.first) (recorded v both.second)
 
+-- the flat world inside a leader site is well
 pub inside-well : (d : Sites) (w : World) → AreSites d → Invariant d w → (g n : ℕ) → IsWell (inside d w g n)
 inside-well d w sites inv g n =
     let s : ℕ = leader d g in
@@ -142,6 +144,7 @@ is_proposed-from d w n g l v sites stand =
 pub accepting-chosen : (d : Sites) (w : World) (n g : ℕ) (v : Value) → IsTrue (are_accepting d w n g v) → HasMajority (numbers_below d.sites) (λ s. stands d w s (is_accept s g n v))
 accepting-chosen d w n g v most = omega (arith, ltb-true _ _ most, length-numbers_below d.sites)
 
+-- the flat world of the sites is well
 pub outside-well : (d : Sites) (w : World) → AreSites d → Invariant d w → (n : ℕ) → IsWell (outside d w n)
 outside-well d w sites inv n =
     record {

@@ -1,20 +1,21 @@
 -- What stands, and what of it a step keeps.
-use Rattle.std.proofs.Common.{◌≡◌, ◌↔◌, ℕ, ◌+◌, ◌<◌, ◌≤◌, ◌⊎◌, ◌==◌, ◌&&◌, Bool, true, false, cond, IsTrue, List, [], ◌∷◌, length, refl, sym, ◌∙◌, ap, subst, inl, inr, ⊎_elim, arith, nat_le}
-use Rattle.std.specs.List.{list_any}
-use Rattle.std.proofs.lemmas.Bool.{leb-true, le-leb, and_parts, eqb-true, eq-eqb}
+use Rattle.std.proofs.Common.{◌≡◌, ℕ, ◌<◌, ◌≤◌, ◌⊎◌, ◌==◌, ◌&&◌, Bool, true, false, cond, IsTrue, List, ◌∷◌, length, refl, sym, subst, inl, inr, arith}
+use Rattle.std.proofs.lemmas.Bool.{leb-true, le-leb, and_parts, eqb-true}
 use Rattle.st_words.specs.declared.statement.Statement.{Statement}
+use Rattle.st_words.specs.declared.value.Update.{Update}
+use Rattle.st_words.specs.declared.value.Value.{Value}
+use Rattle.st_words.specs.declared.value.Value.TheVariants as values
 use Rattle.st_message.specs.declared.change.Change.{Change}
-use Rattle.st_message.specs.declared.change.Change.TheVariants.{EnterLocal, EnterGlobal, Made, Prepared, Accepted, Union, Executed}
-use Rattle.st_counts.specs.Counts.{Has, AllBut, Found, Shared, count}
+use Rattle.st_counts.specs.Counts.{Has, AllBut, Found, Shared}
 use Rattle.st_counts.proofs.CountLaws.{count-mono}
 use Rattle.st_counts.proofs.MemberLaws.{any-from, any-found}
-use Rattle.st_counts.proofs.QuorumLaws.{shared, all_but-found, all_but-majority}
-use Rattle.st_agreement.specs.MiniSteps.{Backed, IsCurrent, with_record, with_made, Records, Hands, MiniStep, records, hands}
+use Rattle.st_counts.proofs.QuorumLaws.{shared, all_but-found}
+use Rattle.st_agreement.specs.MiniSteps.{Backed, IsCurrent, with_record, with_made, with_update, MiniStep, records, hands, asks}
 use Rattle.st_agreement.specs.Records.{made_of, view_of, local_of}
 use Rattle.st_agreement.specs.Rules.{Allowed, History, Makes}
-use Rattle.st_agreement.specs.Sites.{Sites, AreSites, leader}
-use Rattle.st_agreement.specs.Worlds.{World, has_made, stands}
-use Rattle.st_agreement.proofs.HistoryLaws.{view-kept, local-kept, made-kept}
+use Rattle.st_agreement.specs.Sites.{Sites, AreSites}
+use Rattle.st_agreement.specs.Worlds.{World, IsOwn, has_made, stands}
+use Rattle.st_agreement.proofs.HistoryLaws.{view-kept, local-kept, made-kept, made-newest}
 
 -- ---- standing
 
@@ -23,6 +24,7 @@ pub stands-fact : (d : Sites) (w : World) (s : ℕ) (test : Statement → Bool) 
 unfolding stands
 stands-fact d w s test stand = leb-true _ _ stand
 
+-- and back
 pub stands-from : (d : Sites) (w : World) (s : ℕ) (test : Statement → Bool) → AllBut (d.faults s) (d.correct s) (has_made w s test) → IsTrue (stands d w s test)
 unfolding stands
 stands-from d w s test most = le-leb _ _ most
@@ -56,6 +58,7 @@ pub record Makers (d : Sites) (w : World) (s : ℕ) (p q : Statement → Bool) :
   pub first : Found p (w.made s server)
   pub second : Found q (w.made s server)
 
+-- so it is of any two that stand
 pub makers : (d : Sites) (w : World) (s : ℕ) (p q : Statement → Bool) → AreSites d → s < d.sites → IsTrue (stands d w s p) → IsTrue (stands d w s q) → Makers d w s p q
 makers d w s p q sites exists first second =
     let both : Shared (has_made w s p) (has_made w s q) (d.correct s) =
@@ -84,6 +87,7 @@ IsLonger d w s old new = (new ≡ old) ⊎ ((c : Change) × OneMore d w s c old 
 pub record Extends (d : Sites) (old new : World) : Type 0 where
   pub records : (s k : ℕ) → s < d.sites → Has k (d.correct s) → IsLonger d old s (old.records s k) (new.records s k)
   pub made : (s k : ℕ) → s < d.sites → Has k (d.correct s) → (t : Statement) → Has t (old.made s k) → Has t (new.made s k)
+  pub updates : (u : Update) → Has u old.updates → Has u new.updates
   pub fresh : (s k : ℕ) → s < d.sites → Has k (d.correct s) → (t : Statement) → Has t (new.made s k) → Has t (old.made s k) ⊎ (IsCurrent t (old.records s k) × Has t (made_of (old.records s k)))
 
 -- the view is not lower
@@ -102,11 +106,6 @@ made-longer d w s old new (inl same) t has = subst (λ (rs : List Change). Has t
 made-longer d w s old new (inr more) t has = subst (λ (rs : List Change). Has t (made_of rs)) (sym more.1.next) (made-kept more.0 old t has)
 
 -- what is made now was, or may be made
-made-newest : (d : Sites) (s : ℕ) (c : Change) (old : List Change) (t : Statement) → Allowed d s c old → Has t (made_of (c ∷ old)) → Has t (made_of old) ⊎ Makes d s t old
-made-newest d s (Made leaf u) old t allowed (inl same) = inr (subst (λ x. Makes d s x old) (sym same) allowed)
-made-newest d s (Made leaf u) old t allowed (inr has) = inl has
-made-newest d s _ old t allowed has = inl has
-
 pub made-fresh : (d : Sites) (w : World) (s : ℕ) (old new : List Change) → IsLonger d w s old new → (t : Statement) → Has t (made_of new) → Has t (made_of old) ⊎ Makes d s t old
 made-fresh d w s old new (inl same) t has = inl (subst (λ (rs : List Change). Has t (made_of rs)) same has)
 made-fresh d w s old new (inr more) t has =
@@ -157,20 +156,23 @@ with_record-longer d w s k c allowed backed s2 k2 true here =
     )
 with_record-longer d w s k c allowed backed s2 k2 false other = inl refl
 
+-- a record extends
 pub with_record-extends : (d : Sites) (w : World) (s k : ℕ) (c : Change) → Allowed d s c (w.records s k) → Backed d w s c → Extends d w (with_record w s k c)
 unfolding with_record
 with_record-extends d w s k c allowed backed =
     record {
       records = λ s2 k2 exists correct. with_record-longer d w s k c allowed backed s2 k2 (s2 == s && k2 == k) refl;
       made = λ s2 k2 exists correct t has. has;
+      updates = λ u has. has;
       fresh = λ s2 k2 exists correct t has. inl has;
     }
 
--- what one server has handed out with one more, and all others as they were
+-- what was handed out before one statement more stays so
 with_made-kept : (ts : List Statement) (t u : Statement) (b : Bool) → Has u ts → Has u (cond b (t ∷ ts) ts)
 with_made-kept ts t u true has = inr has
 with_made-kept ts t u false has = has
 
+-- what is handed out now was, or is the one
 with_made-fresh : (w : World) (s k : ℕ) (t : Statement) → IsCurrent t (w.records s k) → Has t (made_of (w.records s k)) → (s2 k2 : ℕ) (u : Statement) (b : Bool) → (s2 == s && k2 == k) ≡ b → Has u (cond b (t ∷ w.made s2 k2) (w.made s2 k2)) → Has u (w.made s2 k2) ⊎ (IsCurrent u (w.records s2 k2) × Has u (made_of (w.records s2 k2)))
 with_made-fresh w s k t current recorded s2 k2 u true here (inl same) =
     let parts = and_parts (s2 == s) (k2 == k) here in
@@ -182,14 +184,31 @@ with_made-fresh w s k t current recorded s2 k2 u true here (inl same) =
 with_made-fresh w s k t current recorded s2 k2 u true here (inr has) = inl has
 with_made-fresh w s k t current recorded s2 k2 u false other has = inl has
 
+-- a statement that is handed out extends
 pub with_made-extends : (d : Sites) (w : World) (s k : ℕ) (t : Statement) → IsCurrent t (w.records s k) → Has t (made_of (w.records s k)) → Extends d w (with_made w s k t)
 unfolding with_made
 with_made-extends d w s k t current recorded =
     record {
       records = λ s2 k2 exists correct. inl refl;
       made = λ s2 k2 exists correct u has. with_made-kept (w.made s2 k2) t u (s2 == s && k2 == k) has;
+      updates = λ u has. has;
       fresh = λ s2 k2 exists correct u has. with_made-fresh w s k t current recorded s2 k2 u (s2 == s && k2 == k) refl has;
     }
+
+-- a client's update changes nothing of a server
+with_update-extends : (d : Sites) (w : World) (u : Update) → Extends d w (with_update w u)
+with_update-extends d w u =
+    record {
+      records = λ s k exists correct. inl refl;
+      made = λ s k exists correct t has. has;
+      updates = λ x has. inr has;
+      fresh = λ s k exists correct t has. inl has;
+    }
+
+-- what was a client's own update stays so
+pub own-kept : (d : Sites) (old new : World) (v : Value) → Extends d old new → IsOwn old v → IsOwn new v
+own-kept d old new values.Noop step own = own
+own-kept d old new (values.Update u) step own = step.updates u own
 
 -- each mini-step extends
 pub step-extends : (d : Sites) (old new : World) → MiniStep d old new → Extends d old new
@@ -197,3 +216,4 @@ step-extends d old new (records step) =
     subst (λ w. Extends d old w) (sym step.next) (with_record-extends d old step.site step.server step.change step.allowed step.backed)
 step-extends d old new (hands step) =
     subst (λ w. Extends d old w) (sym step.next) (with_made-extends d old step.site step.server step.statement step.current step.recorded)
+step-extends d old new (asks u next) = subst (λ w. Extends d old w) (sym next) (with_update-extends d old u)

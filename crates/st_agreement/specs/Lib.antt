@@ -1,7 +1,10 @@
 -- The definitions that contracts cite.
+pub mod Example
 pub mod MiniSteps
 pub mod Records
+pub mod Reports
 pub mod Rules
+pub mod Runs
 pub mod Sites
 pub mod Statements
 pub mod Unions

@@ -1,11 +1,14 @@
 -- The two kinds of steps of which each event of a server is a list: it records one change, or hands one
--- statement out that it has recorded. And what they keep.
+-- statement out that it has recorded. A client hands out an update. And what these steps keep.
 use Rattle.std.specs.Prelude.{◌≡◌, ℕ, ◌<◌, ◌≤◌, ◌==◌, ◌&&◌, cond, List, [], ◌∷◌}
+use Rattle.st_words.specs.declared.value.Update.{Update}
 use Rattle.st_words.specs.declared.value.Value.{Value}
 use Rattle.st_words.specs.declared.statement.Statement.{Statement}
-use Rattle.st_words.specs.declared.statement.Statement.TheVariants.{Prepare, Proposal, Accept, LocalVc, GlobalVc, LocalReport, GlobalReport, LocalUnion, GlobalUnion, Reply, ClientUpdate}
+use Rattle.st_words.specs.declared.statement.Statement.TheVariants.{Prepare, Proposal, Accept, LocalUnion, GlobalUnion}
+use Rattle.st_words.specs.declared.ids.Number.{Number}
+use Rattle.st_message.specs.declared.message.Proof.{Proof}
 use Rattle.st_message.specs.declared.change.Change.{Change}
-use Rattle.st_message.specs.declared.change.Change.TheVariants.{EnterLocal, EnterGlobal, Made, Prepared, Accepted, Union, Executed}
+use Rattle.st_message.specs.declared.change.Change.TheVariants.{Made, Prepared, Accepted, Union, Executed}
 use Rattle.st_counts.specs.Counts.{Has}
 use Rattle.st_registers.specs.Tests.{Safe, IsChosen}
 use Rattle.std.specs.Prelude.{IsTrue}
@@ -14,7 +17,7 @@ use Rattle.st_agreement.specs.Rules.{Allowed, History}
 use Rattle.st_agreement.specs.Sites.{Sites, leader}
 use Rattle.st_agreement.specs.Statements.{prepare, is_prepare, is_proposal}
 use Rattle.st_agreement.specs.Unions.{IsLocalUnion, IsGlobalUnion}
-use Rattle.st_agreement.specs.Worlds.{World, stands, inside, outside}
+use Rattle.st_agreement.specs.Worlds.{World, IsOwn, stands, inside, outside}
 
 -- a correct server of the site has recorded that it made the statement
 pub record HasMaker (d : Sites) (w : World) (s : ℕ) (t : Statement) : Type 0 where
@@ -23,8 +26,9 @@ pub record HasMaker (d : Sites) (w : World) (s : ℕ) (t : Statement) : Type 0 w
   pub correct : Has server (d.correct s)
   pub recorded : Has t (made_of (w.records s server))
 
--- a made union is one of the reporters' records
+-- a made Prepare has an update that its client made, and a made union is one over the reporters' records
 abbrev pub BackedMade : Sites → World → ℕ → Statement → Type 0
+BackedMade d w s (Prepare s2 g l n v) = IsOwn w v
 BackedMade d w s (LocalUnion s2 l greatest base items) = IsLocalUnion d w s l.0 greatest.0 base items
 BackedMade d w s (GlobalUnion s2 g base items) = IsGlobalUnion d w s g.0 base items
 BackedMade d w s _ = Unit {0}
@@ -70,6 +74,10 @@ unfoldable pub with_made : World → ℕ → ℕ → Statement → World
 with_made w s k t =
     record w { made = λ site server. cond (site == s && server == k) (t ∷ w.made site server) (w.made site server) }
 
+-- the world in which a client has handed out the update
+abbrev pub with_update : World → Update → World
+with_update w u = record w { updates = u ∷ w.updates }
+
 -- A correct server records a change that it may.
 pub record Records (d : Sites) (old new : World) : Type 0 where
   pub site : ℕ
@@ -96,6 +104,7 @@ pub record Hands (d : Sites) (old new : World) : Type 0 where
 pub data MiniStep (d : Sites) (old new : World) : Type 0 where
   records : Records d old new → MiniStep d old new
   hands : Hands d old new → MiniStep d old new
+  asks : (u : Update) → new ≡ with_update old u → MiniStep d old new
 
 -- What every mini-step keeps.
 pub record Invariant (d : Sites) (w : World) : Type 0 where
@@ -111,4 +120,16 @@ pub record Invariant (d : Sites) (w : World) : Type 0 where
 
 -- at first nothing was recorded, and nothing handed out
 abbrev pub first : World
-first = record { records = λ s k. []; made = λ s k. [] }
+first = record { records = λ s k. []; made = λ s k. []; updates = [] }
+
+-- a correct server has executed the value at the number
+pub record HasExecuted (d : Sites) (w : World) (n : ℕ) (v : Value) : Type 0 where
+  pub site : ℕ
+  pub server : ℕ
+  pub number : Number
+  pub proof : Proof
+  pub exists : site < d.sites
+  pub correct : Has server (d.correct site)
+  pub recorded : Has (Executed number proof) (w.records site server)
+  pub of_number : number.0 ≡ n
+  pub of_value : proof.value ≡ v

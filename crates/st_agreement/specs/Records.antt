@@ -1,13 +1,8 @@
 -- One server's records, newest first: what they hold, and what may be recorded next.
-use Rattle.std.specs.Prelude.{◌≡◌, ℕ, ◌+◌, ◌<◌, ◌≤◌, ◌%◌, ◌/◌, ◌⊎◌, List, [], ◌∷◌, length}
-use Rattle.st_words.specs.declared.value.Value.{Value}
-use Rattle.st_words.specs.declared.statement.Item.{Item}
+use Rattle.std.specs.Prelude.{ℕ, List, [], ◌∷◌}
 use Rattle.st_words.specs.declared.statement.Statement.{Statement}
-use Rattle.st_words.specs.declared.statement.Statement.TheVariants.{Prepare, Proposal, Accept, LocalVc, GlobalVc, LocalReport, GlobalReport, LocalUnion, GlobalUnion, Reply, ClientUpdate}
 use Rattle.st_message.specs.declared.change.Change.{Change}
-use Rattle.st_message.specs.declared.change.Change.TheVariants.{EnterLocal, EnterGlobal, Made, Prepared, Accepted, Union, Executed}
-use Rattle.st_counts.specs.Counts.{Has, Distinct, AllOf}
-use Rattle.st_agreement.specs.Statements.{prepare, proposal, accept, local_union, global_union}
+use Rattle.st_message.specs.declared.change.Change.TheVariants.{EnterLocal, EnterGlobal, Made, Prepared, Accepted, Union}
 
 -- ---- what records hold
 

@@ -3,7 +3,7 @@ use Rattle.std.specs.Prelude.{◌≡◌, ℕ, ◌+◌, ◌<◌, ◌≤◌, ◌/�
 use Rattle.st_words.specs.declared.value.Value.{Value}
 use Rattle.st_words.specs.declared.statement.Item.{Item}
 use Rattle.st_words.specs.declared.statement.Statement.{Statement}
-use Rattle.st_words.specs.declared.statement.Statement.TheVariants.{Prepare, Proposal, Accept, LocalVc, GlobalVc, LocalReport, GlobalReport, LocalUnion, GlobalUnion, Reply, ClientUpdate}
+use Rattle.st_words.specs.declared.statement.Statement.TheVariants.{Prepare, Proposal, Accept, LocalReport, GlobalReport, LocalUnion, GlobalUnion}
 use Rattle.st_message.specs.declared.change.Change.{Change}
 use Rattle.st_message.specs.declared.change.Change.TheVariants.{EnterLocal, EnterGlobal, Made, Prepared, Accepted, Union, Executed}
 use Rattle.st_counts.specs.Counts.{Has, Distinct}

@@ -1,20 +1,28 @@
 -- The sites, the states of their correct servers, and the two flat worlds that these are.
-use Rattle.std.specs.Prelude.{◌≡◌, ℕ, ◌+◌, ◌*◌, ◌<◌, ◌%◌, ◌&&◌, ◌||◌, not, nat_lt, nat_le, Bool, false, List, length}
+use Rattle.std.specs.Prelude.{ℕ, ◌+◌, ◌*◌, ◌&&◌, ◌||◌, not, nat_lt, nat_le, Bool, false, List, length}
 use Rattle.std.specs.List.{list_any}
+use Rattle.st_words.specs.declared.value.Update.{Update}
 use Rattle.st_words.specs.declared.value.Value.{Value}
+use Rattle.st_words.specs.declared.value.Value.TheVariants as values
 use Rattle.st_words.specs.declared.statement.Statement.{Statement}
 use Rattle.st_message.specs.declared.change.Change.{Change}
-use Rattle.st_counts.specs.Counts.{count, numbers_below}
+use Rattle.st_counts.specs.Counts.{count, Has, numbers_below}
 use Rattle.st_registers.specs.Tests.{Tests}
 use Rattle.st_agreement.specs.Records.{view_of, local_of}
 use Rattle.st_agreement.specs.Sites.{Sites, leader}
 use Rattle.st_agreement.specs.Statements.{is_prepare, is_proposal, is_proposal_at, is_accept, is_accept_at, view_in, local_in}
 
 -- Of each correct server, by site and index, its records, newest first, and the statements that it has
--- handed out.
+-- handed out; and the updates that clients have handed out.
 pub record World : Type 0 where
   pub records : ℕ → ℕ → List Change
   pub made : ℕ → ℕ → List Statement
+  pub updates : List Update
+
+-- the value is no update, or one that its client has handed out
+abbrev pub IsOwn : World → Value → Type 0
+IsOwn w values.Noop = Unit {0}
+IsOwn w (values.Update u) = Has u w.updates
 
 -- the server has handed out a statement that passes
 abbrev pub has_made : World → ℕ → (Statement → Bool) → ℕ → Bool

@@ -1,11 +1,121 @@
-//! The core of agreement, over plain states: laws alone.
+//! Why two correct servers never execute different values: laws over plain states, and no code.
+//!
+//! Each event of a server is a list of two kinds of mini-steps: it records one change, or hands out one
+//! statement that it has recorded. For every run of mini-steps the flat world inside each leader site, and
+//! that of the sites, advance by flat steps. No server's contract cites these laws yet.
 #![tactic(auto)]
 
-ghost use Rattle.std.specs.Prelude.{◌≡◌, ℕ};
-ghost use Rattle.st_agreement.specs.MiniSteps.{Invariant, first};
-ghost use Rattle.st_agreement.specs.Sites.{Sites, AreSites};
+ghost use Rattle.std.specs.Prelude.{◌≡◌, ℕ, ◌<◌, ◌≤◌, Bool, IsTrue, List, ◌∷◌};
+ghost use Rattle.st_words.specs.declared.statement.Item.{Item};
+ghost use Rattle.st_words.specs.declared.value.Value.{Value};
+ghost use Rattle.st_message.specs.declared.change.Change.{Change};
+ghost use Rattle.st_counts.specs.Counts.{Has};
+ghost use Rattle.st_registers.specs.Advances.{Advances};
+ghost use Rattle.st_registers.specs.Steps.{IsRun};
+ghost use Rattle.st_registers.specs.Tests.{Safe};
+ghost use Rattle.st_agreement.specs.Example.{three, value, moves, plays, after};
+ghost use Rattle.st_agreement.specs.MiniSteps.{HasExecuted, Invariant, MiniStep, first};
+ghost use Rattle.st_agreement.specs.Reports.{Report, IsUnion, IsLocalBundle, IsGlobalBundle};
+ghost use Rattle.st_agreement.specs.Rules.{MayStand};
+ghost use Rattle.st_agreement.specs.Runs.{Reached, HasServers, sites_of, MayRecord, recordings};
+ghost use Rattle.st_agreement.specs.Sites.{Sites, AreSites, leader};
+ghost use Rattle.st_agreement.specs.Statements.{is_proposal};
+ghost use Rattle.st_agreement.specs.Unions.{IsLocalUnion, IsGlobalUnion};
+ghost use Rattle.st_agreement.specs.Worlds.{World, IsOwn, stands, inside, outside};
 
-/// To be.
-pub fn agreement()
-    ensures { (d : Sites) → AreSites d → Invariant d first }
+/// Where each site has `3 f + 1` servers and at most `f` faulty ones, the correct ones are sites as the
+/// other laws want them.
+pub fn enough_correct()
+    ensures { (sites : ℕ) (faults : ℕ → ℕ) (servers : ℕ → List ℕ) (is_correct : ℕ → ℕ → Bool) →
+        HasServers sites faults servers is_correct → AreSites (sites_of sites faults servers is_correct) }
 {}
+
+/// The invariant holds at first, and each mini-step keeps it; so it holds in each world that is reached.
+pub fn invariant_kept()
+    ensures start { (d : Sites) → Invariant d first }
+    ensures step { (d : Sites) (old new : World) → AreSites d → Invariant d old → MiniStep d old new → Invariant d new }
+    ensures reached { (d : Sites) (w : World) → AreSites d → Reached d w → Invariant d w }
+{}
+
+/// A value that may stand by a server's own records, as the unions that it holds tell, is safe inside its
+/// site and among the sites.
+pub fn prepared_values_are_safe()
+    ensures { (d : Sites) (w : World) (k g l n : ℕ) (v : Value) → AreSites d → Invariant d w →
+        Has k (d.correct (leader d g)) → MayStand d (leader d g) g l n v (w.records (leader d g) k) →
+        Safe (inside d w g n) l v × Safe (outside d w n) g v }
+{}
+
+/// Each mini-step from a world that is reached is flat steps: inside each leader site, and among the sites.
+pub fn flat_refinement()
+    ensures among_servers { (d : Sites) (old new : World) → AreSites d → Reached d old → MiniStep d old new →
+        (g n : ℕ) → Advances (inside d old g n) (inside d new g n) }
+    ensures among_sites { (d : Sites) (old new : World) → AreSites d → Reached d old → MiniStep d old new →
+        (n : ℕ) → Advances (outside d old n) (outside d new n) }
+{}
+
+/// One voice: two Proposals that stand at a site for one view and number have one value, in whatever local
+/// views.
+pub fn one_voice()
+    ensures { (d : Sites) (w : World) (g n l m : ℕ) (u v : Value) → AreSites d → Reached d w →
+        IsTrue (stands d w (leader d g) (is_proposal (leader d g) g l n u)) →
+        IsTrue (stands d w (leader d g) (is_proposal (leader d g) g m n v)) → u ≡ v }
+{}
+
+/// Agreement: in whatever worlds of a run two correct servers have executed a number, they have executed
+/// one value. It is in the log of the flat world, and its client made it.
+pub fn agreement()
+    ensures same { (d : Sites) (worlds : List World) → AreSites d → IsRun (MiniStep d) first worlds →
+        (a b : World) → Has a worlds → Has b worlds → (n : ℕ) (u v : Value) →
+        HasExecuted d a n u → HasExecuted d b n v → u ≡ v }
+    ensures logged { (d : Sites) (w : World) (n : ℕ) (v : Value) → AreSites d → Reached d w →
+        HasExecuted d w n v → IsTrue ((outside d w n).logged v) }
+    ensures own { (d : Sites) (w : World) (n : ℕ) (v : Value) → AreSites d → Reached d w →
+        HasExecuted d w n v → IsOwn w v }
+{}
+
+/// The union of a bundle of reports, of which those of correct servers were made and each item stands, is a
+/// union over the reporters' records.
+pub fn unions_of_reports()
+    ensures local { (d : Sites) (w : World) (s l greatest base : ℕ) (items : List Item) (reports : List Report) →
+        Invariant d w → s < d.sites → IsLocalBundle d w s l reports → IsUnion reports base items →
+        ((r : Report) → Has r reports → r.view ≤ greatest) → IsLocalUnion d w s l greatest base items }
+    ensures global { (d : Sites) (w : World) (s view base : ℕ) (items : List Item) (reports : List Report) →
+        Invariant d w → s < d.sites → IsGlobalBundle d w s view reports → IsUnion reports base items →
+        IsGlobalUnion d w s view base items }
+{}
+
+/// Changes that a stopped server was to record stay allowed while others go on, and can be recorded then.
+pub fn pending_changes()
+    ensures kept { (d : Sites) (old new : World) (s : ℕ) (records changes : List Change) → AreSites d → s < d.sites →
+        MiniStep d old new → MayRecord d old s records changes → MayRecord d new s records changes }
+    ensures recorded { (d : Sites) (w : World) (s k : ℕ) (changes : List Change) → AreSites d → s < d.sites →
+        Has k (d.correct s) → MayRecord d w s (w.records s k) changes →
+        IsRun (MiniStep d) w (recordings w s k changes) }
+{}
+
+/// The laws' premises can be met: a run in which three sites order an update through a change of view. The
+/// first site's server proposes and accepts it in view 0, and it is the other two that accept it in view 1.
+pub fn example_run()
+    ensures sites { AreSites three }
+    ensures run { IsRun (MiniStep three) first (plays first moves) }
+    ensures last { Has (after first moves) (plays first moves) }
+    ensures executed { HasExecuted three (after first moves) 1 value }
+{}
+
+#[cfg(test)]
+mod tests {
+    use super::*;
+
+    #[test]
+    fn laws_are_called() {
+        enough_correct();
+        invariant_kept();
+        prepared_values_are_safe();
+        flat_refinement();
+        one_voice();
+        agreement();
+        unions_of_reports();
+        pending_changes();
+        example_run();
+    }
+}
