@@ -9,3 +9,4 @@ pub mod FieldLaws
 pub mod PlanLaws
 pub mod PlainLaws
 pub mod PartLaws
+pub mod BelowLaws

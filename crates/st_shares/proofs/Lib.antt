@@ -1,0 +1,4 @@
+-- Lemmas.
+pub mod PlaceLaws
+pub mod CountLaws
+pub mod SignedLaws
