@@ -1,13 +1,7 @@
-// A library with one function.
+//! The part of a server that orders numbers: Accept shares, the certificates of Proposals and Accepts,
+//! and what is in hand.
 #![tactic(auto)]
 
-ghost use Rattle.std.specs.Prelude.{◌≡◌};
-ghost use Rattle.st_order.specs.Echo.{echo_of};
+mod accept_share;
 
-// The `ensures` clause is the contract: what `echo` returns is `echo_of` of its argument, a definition
-// in `specs/Echo.antt`, which a caller's clause can cite too.
-pub fn echo(x: usize) -> usize
-    ensures { result ≡ echo_of x }
-{
-    x
-}
+pub use accept_share::on_accept_share;

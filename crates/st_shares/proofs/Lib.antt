@@ -2,3 +2,4 @@
 pub mod PlaceLaws
 pub mod CountLaws
 pub mod SignedLaws
+pub mod FitLaws
