@@ -6,11 +6,13 @@ use Rattle.st_words.specs.declared.value.Value.{Value}
 use Rattle.st_words.specs.declared.statement.Statement.{Statement}
 use Rattle.st_message.specs.declared.change.Change.{Change}
 use Rattle.st_message.specs.declared.change.Change.TheVariants.{Made, Prepared, Accepted, Executed}
+use Rattle.st_message.specs.declared.change.Heard.{Heard}
+use Rattle.st_message.specs.declared.here.Here.{Here as Place}
 use Rattle.st_message.specs.declared.message.Proof.{Proof}
 use Rattle.st_protocol.specs.Words.{Quorum}
 use Rattle.st_protocol.specs.State.{Here, Term, Answers, at_vc, at_report, at_union}
 use Rattle.st_protocol.specs.Questions.{runs, runs_for, last_after, ops_of}
-use Rattle.st_protocol.specs.Growth.{after, notes, cuts, slots_notes, slots_cuts, hand_cuts, own_cuts}
+use Rattle.st_protocol.specs.Growth.{after, notes, cuts, hears, takes, slots_notes, slots_cuts, hand_cuts, own_cuts}
 use Rattle.st_state.specs.declared.slots.Slots.{Slots}
 use Rattle.st_state.specs.declared.clients.Clients.{Clients}
 use Rattle.st_state.specs.declared.hand.Hand.{Hand}
@@ -23,7 +25,7 @@ use Rattle.st_server.specs.declared.live.Live.{Live}
 use Rattle.st_server.specs.Service.{kept_count}
 use Rattle.st_server.specs.LiveView.{Past, past_of, place_here, asked, IsSealed, IsLive}
 use Rattle.st_server.proofs.NoteLaws.{with_made, with_slots, with_executed, live_made, live_prepared, live_accepted, live_executed}
-use Rattle.st_server.proofs.SealedLaws.{sealed_made, sealed_prepared, sealed_accepted, sealed_executed}
+use Rattle.st_server.proofs.SealedLaws.{sealed_made, sealed_prepared, sealed_accepted, sealed_executed, sealed_heard}
 
 -- where the answers' server stands is where the short state stands
 pub here_is : (live : Live) (q : Answers) → IsLive live q → place_here live ≡ q.here
@@ -103,5 +105,18 @@ stands_executed live ran clients slots hand own n p q stands last place kept slo
       entries = ap (λ k. k + 1) stands.entries ∙ sym (length-append q.log.run.entries _);
       ran = kept q.log.run.ran stands.ran ∙ ap (λ (f : ℕ → ℕ). kept_count (length (q.log.run.ran ++ ops_of f p.value))) lasts;
       sealed = sealed_executed q n p stands.sealed;
+      few = stands.few;
+    }
+
+-- what is heard leaves the log, and makes nothing
+pub stands_heard : (live new : Live) (m : Heard) (q : Answers) → IsLive live q → new.here ≡ live.here → new.ran ≡ live.ran
+    → asked (past_of q) new ≡ hears (asked (past_of q) live) m → IsLive new (hears q m)
+unfolding hears takes cuts
+stands_heard live new m q stands here ran is =
+    record {
+      is = is ∙ ap (λ (a : Answers). hears a m) stands.is;
+      entries = ap (λ (h : Place). h.executed) here ∙ stands.entries;
+      ran = ran ∙ stands.ran;
+      sealed = sealed_heard q m stands.sealed;
       few = stands.few;
     }

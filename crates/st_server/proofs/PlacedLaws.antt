@@ -1,5 +1,5 @@
 -- What is placed at a server's present views and window.
-use Rattle.std.proofs.Common.{◌≡◌, ◌≢◌, ℕ, ◌+◌, ◌<◌, ◌≤◌, ◌&&◌, nat_eq, nat_lt, nat_le, true, false, None, IsTrue, refl}
+use Rattle.std.proofs.Common.{◌≡◌, ◌≢◌, ℕ, ◌+◌, ◌<◌, ◌≤◌, ◌&&◌, ◌||◌, Bool, nat_eq, nat_lt, nat_le, true, false, None, IsTrue, refl}
 use Rattle.std.proofs.lemmas.Bool.{and_parts, eqb-true, ltb-true, leb-true}
 use Rattle.st_words.specs.declared.ids.SiteId.{SiteId}
 use Rattle.st_words.specs.declared.ids.ClientId.{ClientId}
@@ -7,6 +7,7 @@ use Rattle.st_words.specs.declared.ids.View.{View}
 use Rattle.st_words.specs.declared.ids.LocalView.{LocalView}
 use Rattle.st_words.specs.declared.value.Value.{Value}
 use Rattle.st_message.specs.declared.change.Change.TheVariants.{Made}
+use Rattle.st_message.specs.declared.change.Heard.{Heard}
 use Rattle.st_tables.specs.Window.{in_window}
 use Rattle.st_words.specs.declared.ids.Number.{Number}
 use Rattle.st_words.specs.declared.statement.Statement.{Statement}
@@ -15,7 +16,7 @@ use Rattle.st_protocol.specs.Words.{Bytes}
 use Rattle.st_protocol.specs.Keeping.{open_if, or_else}
 use Rattle.st_protocol.specs.State.{Here, Term, Place, open_place, AtPrepare, AtProposal, AtAccept, at_vc, at_report, at_union}
 use Rattle.st_state.specs.declared.slots.Slots.{Slots}
-use Rattle.st_state.specs.Placed.{is_at, is_placed, is_placed_statement}
+use Rattle.st_state.specs.Placed.{is_at, is_placed, is_placed_statement, is_within, is_kept_kind, is_own_kind, is_taken}
 use Rattle.st_state.specs.SlotsView.{slots_of, made_at}
 use Rattle.st_state.proofs.SlotsLaws.{made_stays_at, prepared_stays, shares_stay}
 use Rattle.st_server.specs.LiveView.{NotesMade}
@@ -126,3 +127,19 @@ other_placed h slots leaf (GlobalReport site view index base items) placed no_pr
 other_placed h slots leaf (LocalUnion site local greatest base items) placed no_prepare no_proposal no_accept = absurd (let fails : false ≡ true = placed in cc)
 other_placed h slots leaf (GlobalUnion site view base items) placed no_prepare no_proposal no_accept = absurd (let fails : false ≡ true = placed in cc)
 other_placed h slots leaf (ClientUpdate update) placed no_prepare no_proposal no_accept = absurd (let fails : false ≡ true = placed in cc)
+
+-- ---- what is heard
+
+reach_below : (h : Here) (n : ℕ) → is_within h n ≡ true → n ≤ h.executed + 16
+reach_below h n within = leb-true n (h.executed + 16) within
+
+-- the own message of those that are taken, and the others
+pub taken_kind : (h : Here) (m : Heard) → m.own ≡ false → IsTrue (is_taken h m) → IsTrue (is_kept_kind h m.message)
+taken_kind h m other taken = let whole = rw other at taken in whole
+
+pub taken_own : (h : Here) (m : Heard) → m.own ≡ true → IsTrue (is_taken h m) → IsTrue (is_own_kind h m.message)
+taken_own h m own taken = or_false (is_own_kind h m.message) (rw own at taken)
+  where
+    or_false : (b : Bool) → (b || false) ≡ true → b ≡ true
+    or_false true e = e
+    or_false false e = e

@@ -6,3 +6,4 @@ pub mod SlotsView
 pub mod OwnView
 pub mod HandView
 pub mod ClientsView
+pub mod ForcedView

@@ -4,6 +4,7 @@
 #![tactic(auto)]
 
 mod clients;
+mod forced;
 mod hand;
 mod own;
 mod pending;
@@ -11,6 +12,7 @@ mod rings;
 mod slots;
 
 pub use clients::{Clients, LastRun};
+pub use forced::Forced;
 pub use hand::{Hand, Named, Words};
 pub use own::Own;
 pub use pending::Pending;

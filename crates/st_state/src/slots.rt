@@ -94,21 +94,21 @@ impl Slots {
 
     /// The kept shares of the present views' Prepare of a number, by index.
     pub fn prepare_shares(&self, here: &Here, number: u32) -> Option<&Table<Share>>
-        ensures { (clients : ℕ) (serve : Serve) (i : ℕ) → among (option_copied result) i ≡ (slots_of (here_of clients serve here.now) self.now).shares (AtPrepare here.now.view.0 here.now.local.0 number) i }
+        ensures { (clients : ℕ) (serve : Serve) → among (option_copied result) ≡ (slots_of (here_of clients serve here.now) self.now).shares (AtPrepare here.now.view.0 here.now.local.0 number) }
     {
         self.prepare_shares.get(here.executed, number)
     }
 
     /// The kept shares of the present views' Proposal of a number, by index.
     pub fn proposal_shares(&self, here: &Here, number: u32) -> Option<&Table<Share>>
-        ensures { (clients : ℕ) (serve : Serve) (i : ℕ) → among (option_copied result) i ≡ (slots_of (here_of clients serve here.now) self.now).shares (AtProposal here.now.view.0 here.now.local.0 number) i }
+        ensures { (clients : ℕ) (serve : Serve) → among (option_copied result) ≡ (slots_of (here_of clients serve here.now) self.now).shares (AtProposal here.now.view.0 here.now.local.0 number) }
     {
         self.proposal_shares.get(here.executed, number)
     }
 
     /// The kept shares of the present view's Accept of a number, by index.
     pub fn accept_shares(&self, here: &Here, number: u32) -> Option<&Table<Share>>
-        ensures { (clients : ℕ) (serve : Serve) (i : ℕ) → among (option_copied result) i ≡ (slots_of (here_of clients serve here.now) self.now).shares (AtAccept here.now.view.0 number) i }
+        ensures { (clients : ℕ) (serve : Serve) → among (option_copied result) ≡ (slots_of (here_of clients serve here.now) self.now).shares (AtAccept here.now.view.0 number) }
     {
         self.accept_shares.get(here.executed, number)
     }
