@@ -1,8 +1,8 @@
 //! Why two correct servers never execute different values: laws over plain states, and no code.
 //!
 //! Each event of a server is a list of two kinds of mini-steps: it records one change, or hands out one
-//! statement that it has recorded. For every run of mini-steps the flat world inside each leader site, and
-//! that of the sites, advance by flat steps. No server's contract cites these laws yet.
+//! statement that it has recorded. Along every run of mini-steps the flat world inside each leader site, and
+//! that of the sites, only grow and stay well. No server's contract cites these laws yet.
 #![tactic(auto)]
 
 ghost use Rattle.std.specs.Prelude.{◌≡◌, ℕ, ◌<◌, ◌≤◌, Bool, IsTrue, List, ◌∷◌};
@@ -35,7 +35,8 @@ pub fn enough_correct()
 /// The invariant holds at first, and each mini-step keeps it; so it holds in each world that is reached.
 pub fn invariant_kept()
     ensures start { (d : Sites) → Invariant d first }
-    ensures step { (d : Sites) (old new : World) → AreSites d → Invariant d old → MiniStep d old new → Invariant d new }
+    ensures step { (d : Sites) (old new : World) → AreSites d → Invariant d old →
+        MiniStep d old new → Invariant d new }
     ensures reached { (d : Sites) (w : World) → AreSites d → Reached d w → Invariant d w }
 {}
 
@@ -47,7 +48,8 @@ pub fn prepared_values_are_safe()
         Safe (inside d w g n) l v × Safe (outside d w n) g v }
 {}
 
-/// Each mini-step from a world that is reached is flat steps: inside each leader site, and among the sites.
+/// Each mini-step from a world that is reached lets both flat worlds advance, that inside each leader site and
+/// that of the sites: nothing is lost, and all is well.
 pub fn flat_refinement()
     ensures among_servers { (d : Sites) (old new : World) → AreSites d → Reached d old → MiniStep d old new →
         (g n : ℕ) → Advances (inside d old g n) (inside d new g n) }
