@@ -1,4 +1,5 @@
 -- Lemmas.
+pub mod CertificateLaws
 pub mod ExampleLaws
 pub mod GrowLaws
 pub mod HistoryLaws

@@ -1,4 +1,5 @@
 -- The definitions that contracts cite.
+pub mod Certificates
 pub mod Example
 pub mod MiniSteps
 pub mod Records

@@ -1,27 +1,29 @@
 //! Why two correct servers never execute different values: laws over plain states, and no code.
 //!
 //! Each event of a server is a list of two kinds of mini-steps: it records one change, or hands out one
-//! statement that it has recorded. For every run of mini-steps the flat world inside each leader site, and
-//! that of the sites, advance by flat steps. No server's contract cites these laws yet.
+//! statement that it has recorded. Along every run of mini-steps the flat world inside each leader site, and
+//! that of the sites, only grow and stay well. No server's contract cites these laws yet.
 #![tactic(auto)]
 
 ghost use Rattle.std.specs.Prelude.{◌≡◌, ℕ, ◌<◌, ◌≤◌, Bool, IsTrue, List, ◌∷◌};
 ghost use Rattle.st_words.specs.declared.statement.Item.{Item};
+ghost use Rattle.st_words.specs.declared.statement.Statement.{Statement};
 ghost use Rattle.st_words.specs.declared.value.Value.{Value};
 ghost use Rattle.st_message.specs.declared.change.Change.{Change};
 ghost use Rattle.st_counts.specs.Counts.{Has};
 ghost use Rattle.st_registers.specs.Advances.{Advances};
 ghost use Rattle.st_registers.specs.Steps.{IsRun};
-ghost use Rattle.st_registers.specs.Tests.{Safe};
+ghost use Rattle.st_registers.specs.Tests.{Safe, IsChosen};
+ghost use Rattle.st_agreement.specs.Certificates.{IsQuorum, IsOrdered};
 ghost use Rattle.st_agreement.specs.Example.{three, value, moves, plays, after};
-ghost use Rattle.st_agreement.specs.MiniSteps.{HasExecuted, Invariant, MiniStep, first};
+ghost use Rattle.st_agreement.specs.MiniSteps.{HasExecuted, HasMaker, Invariant, MiniStep, first};
 ghost use Rattle.st_agreement.specs.Reports.{Report, IsUnion, IsLocalBundle, IsGlobalBundle};
 ghost use Rattle.st_agreement.specs.Rules.{MayStand};
 ghost use Rattle.st_agreement.specs.Runs.{Reached, HasServers, sites_of, MayRecord, recordings};
 ghost use Rattle.st_agreement.specs.Sites.{Sites, AreSites, leader};
 ghost use Rattle.st_agreement.specs.Statements.{is_proposal};
 ghost use Rattle.st_agreement.specs.Unions.{IsLocalUnion, IsGlobalUnion};
-ghost use Rattle.st_agreement.specs.Worlds.{World, IsOwn, stands, inside, outside};
+ghost use Rattle.st_agreement.specs.Worlds.{World, IsOwn, has_made, stands, inside, outside};
 
 /// Where each site has `3 f + 1` servers and at most `f` faulty ones, the correct ones are sites as the
 /// other laws want them.
@@ -33,7 +35,8 @@ pub fn enough_correct()
 /// The invariant holds at first, and each mini-step keeps it; so it holds in each world that is reached.
 pub fn invariant_kept()
     ensures start { (d : Sites) → Invariant d first }
-    ensures step { (d : Sites) (old new : World) → AreSites d → Invariant d old → MiniStep d old new → Invariant d new }
+    ensures step { (d : Sites) (old new : World) → AreSites d → Invariant d old →
+        MiniStep d old new → Invariant d new }
     ensures reached { (d : Sites) (w : World) → AreSites d → Reached d w → Invariant d w }
 {}
 
@@ -45,7 +48,8 @@ pub fn prepared_values_are_safe()
         Safe (inside d w g n) l v × Safe (outside d w n) g v }
 {}
 
-/// Each mini-step from a world that is reached is flat steps: inside each leader site, and among the sites.
+/// Each mini-step from a world that is reached lets both flat worlds advance, that inside each leader site and
+/// that of the sites: nothing is lost, and all is well.
 pub fn flat_refinement()
     ensures among_servers { (d : Sites) (old new : World) → AreSites d → Reached d old → MiniStep d old new →
         (g n : ℕ) → Advances (inside d old g n) (inside d new g n) }
@@ -84,6 +88,25 @@ pub fn unions_of_reports()
         IsGlobalUnion d w s view base items }
 {}
 
+/// What certificates show, where checked seals of correct servers are over what these handed out: a
+/// statement that a quorum of a site signed stands there, and has a correct maker; a value that a majority of
+/// sites accepted in one view is chosen.
+pub fn certificates()
+    ensures stand { (sites : ℕ) (faults : ℕ → ℕ) (servers : ℕ → List ℕ) (is_correct : ℕ → ℕ → Bool) (w : World)
+        (s : ℕ) (test : Statement → Bool) (signers : List ℕ) →
+        HasServers sites faults servers is_correct → s < sites →
+        IsQuorum (faults s) (servers s) (is_correct s) (λ k. IsTrue (has_made w s test k)) signers →
+        IsTrue (stands (sites_of sites faults servers is_correct) w s test) }
+    ensures maker { (sites : ℕ) (faults : ℕ → ℕ) (servers : ℕ → List ℕ) (is_correct : ℕ → ℕ → Bool) (w : World)
+        (s : ℕ) (t : Statement) (signers : List ℕ) →
+        HasServers sites faults servers is_correct →
+        Invariant (sites_of sites faults servers is_correct) w → s < sites →
+        IsQuorum (faults s) (servers s) (is_correct s) (λ k. Has t (w.made s k)) signers →
+        HasMaker (sites_of sites faults servers is_correct) w s t }
+    ensures chosen { (d : Sites) (w : World) (n g : ℕ) (v : Value) (named : List ℕ) →
+        IsOrdered d w n g v named → IsChosen (outside d w n) v }
+{}
+
 /// Changes that a stopped server was to record stay allowed while others go on, and can be recorded then.
 pub fn pending_changes()
     ensures kept { (d : Sites) (old new : World) (s : ℕ) (records changes : List Change) → AreSites d → s < d.sites →
@@ -115,6 +138,7 @@ mod tests {
         one_voice();
         agreement();
         unions_of_reports();
+        certificates();
         pending_changes();
         example_run();
     }
