@@ -4,7 +4,11 @@
 mod done;
 mod limits;
 mod line;
+mod read;
 
 pub use done::{Done, Dones};
-pub use limits::{EMPTY_JOURNAL, MOST_JOURNAL, MOST_MESSAGES, MOST_SENT};
+pub use limits::{
+    EMPTY_JOURNAL, MOST_FLOW, MOST_JOURNAL, MOST_MESSAGES, MOST_OPERATION, MOST_SENT,
+};
 pub use line::{Dest, Line, Lines};
+pub use read::{ScheduleError, read_line};

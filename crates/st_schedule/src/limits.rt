@@ -9,3 +9,9 @@ pub const MOST_JOURNAL: u64 = 4_294_967_296;
 
 /// How many bytes a journal's file has before its first body.
 pub const EMPTY_JOURNAL: u64 = 9;
+
+/// How many bytes an operation has at most.
+pub const MOST_OPERATION: usize = 1_024;
+
+/// How many messages one flow delivers at most.
+pub const MOST_FLOW: u32 = 4_000_000;

@@ -1,0 +1,3 @@
+-- Lemmas.
+pub mod HexadecimalLaws
+pub mod NumberLaws
