@@ -31,7 +31,10 @@ pub fn on_accept_share(
         return Err(Refused::Ignored(Reason::NotMine));
     };
     let Statement::Accept {
-        site, view, number, ..
+        site,
+        view,
+        number,
+        ..
     } = statement
     else {
         return Err(Refused::Ignored(Reason::NotMine));

@@ -3,5 +3,7 @@
 #![tactic(auto)]
 
 mod accept_share;
+mod proposal;
 
 pub use accept_share::on_accept_share;
+pub use proposal::on_proposal;

@@ -10,7 +10,7 @@ mod slot;
 mod step;
 
 pub use counting::{agreeing, complete, completes, is_seen_share};
-pub use here::{majority, out_of_window, quorum, rep, servers};
+pub use here::{majority, out_of_window, quorum, rep, servers, to_rep, to_site};
 pub use quorums::completed;
 pub use same::{same_statement, same_update, same_value, says};
 pub use slot::{
