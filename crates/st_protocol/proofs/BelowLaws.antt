@@ -59,6 +59,7 @@ some_below_found test k (suc n) below here = by_place (below_or_last k n below) 
     found_last : (b : Bool) → test n ≡ true → (b || test n) ≡ true
     found_last true e = refl
     found_last false e = e
+
     by_place : (k < n) ⊎ (k ≡ n) → (k < n → some_below test n ≡ true) → (some_below test n || test n) ≡ true
     by_place (inl lower) found = rw (found lower) refl
     by_place (inr last) found = found_last (some_below test n) (subst (λ m. test m ≡ true) last here)
