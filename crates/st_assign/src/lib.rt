@@ -1,13 +1,9 @@
-// A library with one function.
+//! The part of a server that gives numbers their values: clients' updates, the representative's
+//! assignments, the shares of Prepares and Proposals, and the fill.
 #![tactic(auto)]
 
-ghost use Rattle.std.specs.Prelude.{◌≡◌};
-ghost use Rattle.st_assign.specs.Echo.{echo_of};
+mod proposal_share;
+mod update;
 
-// The `ensures` clause is the contract: what `echo` returns is `echo_of` of its argument, a definition
-// in `specs/Echo.antt`, which a caller's clause can cite too.
-pub fn echo(x: usize) -> usize
-    ensures { result ≡ echo_of x }
-{
-    x
-}
+pub use proposal_share::on_proposal_share;
+pub use update::on_update;
