@@ -68,6 +68,23 @@ prepares here slots leaf view local n value q =
     (when (is_none (slots.made (AtProposal view local n)))
     (making leaf (a_proposal here.seat.site view local n value) forms.Share (to_rep here)))
 
+-- the share of a Prepare completes its slot
+abbrev pub completes_prepare : Here → Slots → ℕ → ℕ → ℕ → ℕ → Value → Signed → Bool
+completes_prepare here slots site view local n value signed =
+    completes here (slots.shares (AtPrepare view local n)) (a_prepare site view local n value) signed
+
+-- it is kept; where it completes the slot, what follows is made from this leaf on
+abbrev pub keeps_prepare : Here → Slots → ℕ → ℕ → ℕ → ℕ → ℕ → Value → Signed → Step
+keeps_prepare here slots leaf site view local n value signed =
+    let statement : Statement = a_prepare site view local n value in
+    then (keeping (messages.Share statement signed))
+    (when (completes_prepare here slots site view local n value signed)
+    (prepares here slots leaf view local n value (completed here (slots.shares (AtPrepare view local n)) statement signed)))
+
+-- a slot that was completed, where no Proposal was made
+abbrev pub proposes : Slots → ℕ → ℕ → ℕ → Bool → Bool
+proposes slots view local n done = done && is_none (slots.made (AtProposal view local n))
+
 -- no Prepare was made there, so one is made
 abbrev pub assigns : Slots → ℕ → ℕ → ℕ → Bool
 assigns slots view local n = is_none (slots.made (AtPrepare view local n))
@@ -79,12 +96,7 @@ keeps_assigned here slots view local n = not (complete here (slots.shares (AtPre
 -- it is kept, and completes the slot
 abbrev pub completes_assigned : Here → Slots → ℕ → ℕ → ℕ → Value → Signed → Bool
 completes_assigned here slots view local n value signed =
-    keeps_assigned here slots view local n
-    && completes here (slots.shares (AtPrepare view local n)) (a_prepare here.seat.site view local n value) signed
-
--- a complete slot where no Proposal was made
-abbrev pub proposes : Slots → ℕ → ℕ → ℕ → Bool → Bool
-proposes slots view local n done = done && is_none (slots.made (AtProposal view local n))
+    keeps_assigned here slots view local n && completes_prepare here slots here.seat.site view local n value signed
 
 abbrev pub assign_reasons : Here → Slots → Forced → ℕ → ℕ → ℕ → Value → Bytes → Signed → List (Bool × Reason)
 assign_reasons here slots forced view local n value client_seal signed =
@@ -104,24 +116,16 @@ assign_reasons here slots forced view local n value client_seal signed =
 
 abbrev pub assign_step : Here → Slots → ℕ → ℕ → ℕ → Value → Signed → Step
 assign_step here slots view local n value signed =
-    let statement : Statement = a_prepare here.seat.site view local n value in
     let new : Bool = assigns slots view local n in
-    then (when new (making here.leaf statement forms.Share (to_site here)))
+    then (when new (making here.leaf (a_prepare here.seat.site view local n value) forms.Share (to_site here)))
     (when (keeps_assigned here slots view local n)
-    (then (keeping (messages.Share statement signed))
-    (when (completes_assigned here slots view local n value signed)
-    (prepares here slots (here.leaf + one_if new) view local n value (completed here (slots.shares (AtPrepare view local n)) statement signed)))))
+    (keeps_prepare here slots (here.leaf + one_if new) here.seat.site view local n value signed))
 
 abbrev pub on_assign : Here → Slots → Forced → ℕ → ℕ → ℕ → Value → Bytes → Signed → Answer
 on_assign here slots forced view local n value client_seal signed =
     decides (assign_reasons here slots forced view local n value client_seal signed) (assign_step here slots view local n value signed)
 
 -- ---- shares
-
--- the share completes its slot
-abbrev pub completes_prepare : Here → Slots → ℕ → ℕ → ℕ → ℕ → Value → Signed → Bool
-completes_prepare here slots site view local n value signed =
-    completes here (slots.shares (AtPrepare view local n)) (a_prepare site view local n value) signed
 
 abbrev pub prepare_reasons : Here → Slots → ℕ → ℕ → ℕ → ℕ → Value → Signed → List (Bool × Reason)
 prepare_reasons here slots site view local n value signed =
@@ -134,11 +138,7 @@ prepare_reasons here slots site view local n value signed =
     ∷ []
 
 abbrev pub prepare_step : Here → Slots → ℕ → ℕ → ℕ → ℕ → Value → Signed → Step
-prepare_step here slots site view local n value signed =
-    let statement : Statement = a_prepare site view local n value in
-    then (keeping (messages.Share statement signed))
-    (when (completes_prepare here slots site view local n value signed)
-    (prepares here slots here.leaf view local n value (completed here (slots.shares (AtPrepare view local n)) statement signed)))
+prepare_step here slots site view local n value signed = keeps_prepare here slots here.leaf site view local n value signed
 
 abbrev pub on_prepare : Here → Slots → ℕ → ℕ → ℕ → ℕ → Value → Signed → Answer
 on_prepare here slots site view local n value signed =

@@ -1,7 +1,8 @@
-ghost use Rattle.std.specs.Prelude.{◌≡◌, ◌+◌, ◌*◌, ◌/◌, ◌%◌, ◌<◌, nat_le, nat_lt, ◌||◌};
+ghost use Rattle.std.specs.Prelude.{◌≡◌, ◌+◌, ◌*◌, ◌/◌, ◌<◌, nat_le, nat_lt, ◌||◌};
+ghost use Rattle.st_shares.specs.Sites.{rep_index, rep_scope, site_scope};
 
-use st_message::Here;
-use st_words::{Number, WINDOW};
+use st_message::{Here, Scope};
+use st_words::{Number, ServerId, SiteId, WINDOW};
 
 /// How many servers the site has.
 pub fn servers(here: &Here) -> usize
@@ -27,7 +28,7 @@ pub fn majority(here: &Here) -> usize
 /// The index of the site's representative.
 pub fn rep(here: &Here) -> u8
     requires { 3 * here.now.f < 256 }
-    ensures { result ≡ here.now.local.0 % (3 * here.now.f + 1) }
+    ensures { result ≡ rep_index here.now }
 {
     (here.local.0 % (3 * here.f as u32 + 1)) as u8
 }
@@ -37,4 +38,22 @@ pub fn out_of_window(here: &Here, number: Number) -> bool
     ensures { result ≡ (nat_le number.0 here.now.executed || nat_lt (here.now.executed + WINDOW) number.0) }
 {
     number.0 <= here.executed || number.0 - here.executed > WINDOW
+}
+
+/// To the servers of the site.
+pub fn to_site(here: &Here) -> Scope
+    ensures { result ≡ site_scope here.now }
+{
+    Scope::Site(SiteId(here.me.site))
+}
+
+/// To the site's representative.
+pub fn to_rep(here: &Here) -> Scope
+    requires { 3 * here.now.f < 256 }
+    ensures { result ≡ rep_scope here.now }
+{
+    Scope::One(ServerId {
+        site: here.me.site,
+        index: rep(here),
+    })
 }

@@ -12,11 +12,11 @@ mod step;
 mod tests;
 
 pub use counting::{agreeing, complete, completes, is_seen_share};
-pub use here::{majority, out_of_window, quorum, rep, servers};
+pub use here::{majority, out_of_window, quorum, rep, servers, to_rep, to_site};
 pub use quorums::completed;
 pub use same::{same_statement, same_update, same_value, says};
 pub use slot::{
-    accept_row, entry_of, made_accept, made_prepare, made_proposal, prepare_row, proposal_row,
+    Slot, accept_row, entry_of, made_accept, made_prepare, made_proposal, prepare_row, proposal_row,
 };
 pub use step::{
     certifies, completing, idle, keeping, keeping_share, making, only, putting, recording, then,

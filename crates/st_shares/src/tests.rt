@@ -2,11 +2,10 @@ ghost use Rattle.std.specs.Prelude.{◌≡◌};
 
 use super::*;
 use st_fields::Seq;
-use st_message::{Change, Form, Here, Message, Out, Scope, Share};
+use st_message::{Here, Scope};
 use st_seal::Signed;
 use st_state::Slots;
-use st_tables::Table;
-use st_words::{ClientId, LocalView, Number, ServerId, SiteId, Statement, Value, View};
+use st_words::{LocalView, Number, ServerId, SiteId, Statement, Value, View};
 use std::alloc::Global;
 use std::test::*;
 
@@ -50,6 +49,7 @@ fn a_site_s_numbers(rt: HostRuntime) -> Result<(), Fail> {
     assert_eq!(rt; quorum(&here), 3);
     assert_eq!(rt; majority(&here), 2);
     assert_eq!(rt; rep(&here), 1);
+    assert_eq!(rt; to_rep(&here), Scope::One(ServerId { site: 0, index: 1 }));
     assert!(rt; out_of_window(&here, Number(17)));
     assert!(rt; !out_of_window(&here, Number(16)));
     Ok(())

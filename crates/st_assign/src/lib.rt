@@ -1,0 +1,11 @@
+//! The part of a server that gives numbers their values: clients' updates, the representative's
+//! assignments, the shares of Prepares and Proposals, and the fill.
+#![tactic(auto)]
+
+mod proposal_share;
+#[cfg(test)]
+mod tests;
+mod update;
+
+pub use proposal_share::on_proposal_share;
+pub use update::on_update;

@@ -1,0 +1,83 @@
+ghost use Rattle.std.specs.Prelude.{◌≡◌, ℕ, ◌*◌, ◌<◌, IfOk};
+ghost use Rattle.st_protocol.specs.Ordering.{accept_share_reasons};
+ghost use Rattle.st_protocol.specs.Part.{Answers, first_reason};
+ghost use Rattle.st_state.specs.HereView.{Serve, here_of};
+ghost use Rattle.st_state.specs.Placed.{Fits};
+ghost use Rattle.st_state.specs.SlotsView.{slots_of};
+ghost use Rattle.st_shares.specs.Known.{IsKnown, IsKnownMessage};
+ghost use Rattle.st_order.specs.Parts.{accept_share_answer};
+
+use st_message::{Here, Message, Reason, Refused, Scope, Step};
+use st_seal::Signed;
+use st_shares::{accept_row, certifies, is_seen_share, out_of_window, rep};
+use st_state::Slots;
+use st_words::{LAST_NUMBER, Number, SiteId, Statement, View};
+use std::alloc::Global;
+
+/// What a server does at a share of an Accept: the representative keeps it, and where it completes its
+/// slot sends the certificate to all servers.
+pub fn on_accept_share(
+    alloc: Global,
+    here: &Here,
+    slots: &Slots,
+    message: &Message,
+) -> Result<Step, Refused>
+    requires known { IsKnown here.now }
+    requires sender { IsKnownMessage here.now message.now }
+    ensures answers { (clients : ℕ) (serve : Serve) → let h = here_of clients serve here.now in Answers result (accept_share_answer h (slots_of h slots.now) message.now) }
+    ensures fits { (clients : ℕ) (serve : Serve) → IfOk result (Fits (here_of clients serve here.now)) }
+{
+    let Message::Share { statement, signed } = message else {
+        return Err(Refused::Ignored(Reason::NotMine));
+    };
+    let Statement::Accept {
+        site,
+        view,
+        number,
+        ..
+    } = statement
+    else {
+        return Err(Refused::Ignored(Reason::NotMine));
+    };
+    if let Some(reason) = reason_of(here, slots, *site, *view, *number, signed) {
+        return Err(Refused::Ignored(reason));
+    }
+    let row = accept_row(here, slots, *view, *number);
+    let step = certifies(alloc, here, row, statement, signed, Scope::All)?;
+    Ok(step)
+}
+
+// The first reason to ignore the share, if there is one.
+fn reason_of(
+    here: &Here,
+    slots: &Slots,
+    site: SiteId,
+    view: View,
+    number: Number,
+    signed: &Signed,
+) -> Option<Reason>
+    requires { 3 * here.now.f < 256 }
+    ensures { (clients : ℕ) (serve : Serve) → let h = here_of clients serve here.now in result ≡ first_reason (accept_share_reasons h (slots_of h slots.now) site.0 view.0 number.0 signed.now) }
+{
+    if site.0 != here.me.site {
+        Some(Reason::NotMine)
+    } else if view != here.view {
+        Some(Reason::OtherView {
+            view: here.view.0,
+            local: here.local.0,
+        })
+    } else if out_of_window(here, number) {
+        Some(Reason::OutOfWindow {
+            number: number.0,
+            executed: here.executed,
+        })
+    } else if here.me.index != rep(here) {
+        Some(Reason::NotRep { index: rep(here) })
+    } else if is_seen_share(here, accept_row(here, slots, view, number), signed.index) {
+        Some(Reason::Seen)
+    } else if number.0 > LAST_NUMBER {
+        Some(Reason::LogFull { number: number.0 })
+    } else {
+        None
+    }
+}
