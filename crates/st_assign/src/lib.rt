@@ -3,8 +3,6 @@
 #![tactic(auto)]
 
 mod proposal_share;
-#[cfg(test)]
-mod tests;
 mod update;
 
 pub use proposal_share::on_proposal_share;
