@@ -5,3 +5,4 @@ pub mod HearLaws
 pub mod SealedLaws
 pub mod LiveLaws
 pub mod PlacedLaws
+pub mod StandLaws

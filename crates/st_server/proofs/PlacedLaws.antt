@@ -6,6 +6,8 @@ use Rattle.st_words.specs.declared.ids.ClientId.{ClientId}
 use Rattle.st_words.specs.declared.ids.View.{View}
 use Rattle.st_words.specs.declared.ids.LocalView.{LocalView}
 use Rattle.st_words.specs.declared.value.Value.{Value}
+use Rattle.st_seal.specs.declared.quorum.Signed.{Signed}
+use Rattle.st_message.specs.declared.message.Message.TheVariants as messages
 use Rattle.st_message.specs.declared.change.Change.TheVariants.{Made}
 use Rattle.st_message.specs.declared.change.Heard.{Heard}
 use Rattle.st_tables.specs.Window.{in_window}
@@ -15,6 +17,7 @@ use Rattle.st_words.specs.declared.statement.Statement.TheVariants.{Prepare, Pro
 use Rattle.st_protocol.specs.Words.{Bytes}
 use Rattle.st_protocol.specs.Keeping.{open_if, or_else}
 use Rattle.st_protocol.specs.State.{Here, Term, Place, open_place, AtPrepare, AtProposal, AtAccept, at_vc, at_report, at_union}
+use Rattle.st_protocol.specs.Step.{servers}
 use Rattle.st_state.specs.declared.slots.Slots.{Slots}
 use Rattle.st_state.specs.Placed.{is_at, is_placed, is_placed_statement, is_within, is_kept_kind, is_own_kind, is_taken}
 use Rattle.st_state.specs.SlotsView.{slots_of, made_at}
@@ -130,6 +133,14 @@ other_placed h slots leaf (ClientUpdate update) placed no_prepare no_proposal no
 
 -- ---- what is heard
 
+-- the views of a share, of which the rest of the test is passed too
+views_of : (h : Here) (view : View) (local : LocalView) (within known : Bool) → (is_at h view.0 local.0 && within && known) ≡ true → (h.view ≡ view.0) × (h.local ≡ local.0)
+views_of h view local within known taken =
+    let whole = and_parts (is_at h view.0 local.0 && within) known taken in
+    let both = and_parts (is_at h view.0 local.0) within whole.0 in
+    let views = and_parts (nat_eq h.view view.0) (nat_eq h.local local.0) both.0 in
+    (eqb-true h.view view.0 views.0, eqb-true h.local local.0 views.1)
+
 reach_below : (h : Here) (n : ℕ) → is_within h n ≡ true → n ≤ h.executed + 16
 reach_below h n within = leb-true n (h.executed + 16) within
 
@@ -143,3 +154,17 @@ taken_own h m own taken = or_false (is_own_kind h m.message) (rw own at taken)
     or_false : (b : Bool) → (b || false) ≡ true → b ≡ true
     or_false true e = e
     or_false false e = e
+
+pub share_prepare_views : (h : Here) (s : Statement) (signed : Signed) (site : SiteId) (view : View) (local : LocalView) (n : Number) (v : Value) → s ≡ Prepare site view local n v
+    → IsTrue (is_kept_kind h (messages.Share s signed)) → (h.view ≡ view.0) × (h.local ≡ local.0)
+share_prepare_views h s signed site view local n v is taken = views_of h view local (is_within h n.0) (nat_lt signed.index (servers h)) (rw is at taken)
+
+pub share_proposal_views : (h : Here) (s : Statement) (signed : Signed) (site : SiteId) (view : View) (local : LocalView) (n : Number) (v : Value) → s ≡ Proposal site view local n v
+    → IsTrue (is_kept_kind h (messages.Share s signed)) → (h.view ≡ view.0) × (h.local ≡ local.0)
+share_proposal_views h s signed site view local n v is taken = views_of h view local (is_within h n.0) (nat_lt signed.index (servers h)) (rw is at taken)
+
+pub share_accept_view : (h : Here) (s : Statement) (signed : Signed) (site : SiteId) (view : View) (n : Number) (v : Value) → s ≡ Accept site view n v
+    → IsTrue (is_kept_kind h (messages.Share s signed)) → h.view ≡ view.0
+share_accept_view h s signed site view n v is taken =
+    let whole = and_parts (nat_eq h.view view.0 && is_within h n.0) (nat_lt signed.index (servers h)) (rw is at taken) in
+    eqb-true h.view view.0 (and_parts (nat_eq h.view view.0) (is_within h n.0) whole.0).0

@@ -1,20 +1,23 @@
-ghost use Rattle.std.specs.Prelude.{◌≡◌, ℕ, ◌+◌, ◌-◌, ◌^◌, ◌<◌, ◌≤◌, cond, List, ◌++◌, length, IsTrue, IfOk, OnOk, OnErr, IsOkUnless};
+ghost use Rattle.std.specs.Prelude.{◌≡◌, ℕ, ◌+◌, ◌-◌, ◌^◌, ◌<◌, ◌≤◌, true, false, cond, List, ◌++◌, length, IsTrue, IfOk, OnOk, OnErr, IsOkUnless};
 ghost use Rattle.st_fields.specs.declared.error.WordsError.TheVariants as words;
 ghost use Rattle.st_message.specs.declared.change.Change.TheVariants as changes;
+ghost use Rattle.st_message.specs.declared.message.Message.TheVariants as messages;
 ghost use Rattle.st_protocol.specs.State.{Answers};
-ghost use Rattle.st_protocol.specs.Growth.{after};
+ghost use Rattle.st_protocol.specs.Growth.{after, hears};
 ghost use Rattle.st_state.specs.HereView.{Serve, here_of};
-ghost use Rattle.st_state.specs.Placed.{is_placed};
+ghost use Rattle.st_state.specs.Placed.{is_placed, is_taken, is_own_kind, is_kept_kind};
+ghost use Rattle.st_state.specs.SlotsView.{heard_share};
+ghost use Rattle.st_state.specs.OwnView.{own_certificate};
 ghost use Rattle.st_protocol.specs.Questions.{last_after, runs_for, ops_of};
-ghost use Rattle.st_state.specs.ClientsView.{last_of, place_of};
+ghost use Rattle.st_state.specs.ClientsView.{last_of, place_of, heard_update};
 ghost use Rattle.st_server.specs.Service.{kept_count};
 ghost use Rattle.st_server.specs.LiveView.{place_here, IsLive, NotesMade};
 
-use st_fields::WordsError;
-use st_message::{Change, Here, Proof};
-use st_seal::Quorum;
+use st_fields::{Bytes, WordsError};
+use st_message::{Change, Heard, Here, Message, Proof};
+use st_seal::{Quorum, Signed};
 use st_state::{Clients, Hand, Own, Pending, Slots};
-use st_words::{Number, Statement, Value};
+use st_words::{Number, Statement, Update, Value};
 use std::alloc::Global;
 
 /// The short state of a server: all that its duties look at at an event but the log, the proofs and the
@@ -150,6 +153,149 @@ impl Live {
             }
         }
         Ok((clients, self.ran))
+    }
+
+    /// Keeps what is heard, where the tables take it.
+    pub fn hear(&mut self, alloc: Global, heard: &Heard) -> Result<(), WordsError>
+        requires { IsTrue (is_taken (place_here self.old) heard.now) }
+        ensures ok { OnOk result ((q : Answers) → IsLive self.old q → IsLive self.new (hears q heard.now)) }
+        ensures err { OnErr result (self.new ≡ self.old) }
+        ensures memory { IsOkUnless result words.OutOfMemory }
+    {
+        if heard.own {
+            self.hear_own(alloc, &heard.message)?;
+        } else {
+            self.hear_other(alloc, &heard.message)?;
+        }
+        Ok(())
+    }
+
+    fn hear_own(&mut self, alloc: Global, message: &Message) -> Result<(), WordsError>
+        requires { IsTrue (is_own_kind (place_here self.old) message.now) }
+        ensures ok { OnOk result ((q : Answers) → IsLive self.old q → IsLive self.new (hears q (record { own = true; message = message.now }))) }
+        ensures err { OnErr result (self.new ≡ self.old) }
+        ensures memory { IsOkUnless result words.OutOfMemory }
+    {
+        if let Message::Certificate { statement, quorum } = message {
+            self.hear_completed(alloc, statement, quorum)?;
+        }
+        Ok(())
+    }
+
+    // A certificate that this server completed.
+    fn hear_completed(
+        &mut self,
+        alloc: Global,
+        statement: &Statement,
+        quorum: &Quorum,
+    ) -> Result<(), WordsError>
+        requires { IsTrue (is_own_kind (place_here self.old) (messages.Certificate statement.now quorum.now)) }
+        ensures ok { OnOk result ((q : Answers) → IsLive self.old q → IsLive self.new (hears q (own_certificate statement.now quorum.now))) }
+        ensures err { OnErr result (self.new ≡ self.old) }
+        ensures memory { IsOkUnless result words.OutOfMemory }
+    {
+        let here = self.here;
+        match statement {
+            Statement::Proposal { number, .. } => {
+                self.own
+                    .keep_proposal(alloc, &here, *number, statement, quorum)?
+            }
+            Statement::Accept { number, .. } => {
+                self.own
+                    .keep_accept(alloc, &here, *number, statement, quorum)?
+            }
+            _ => {}
+        }
+        Ok(())
+    }
+
+    fn hear_other(&mut self, alloc: Global, message: &Message) -> Result<(), WordsError>
+        requires { IsTrue (is_kept_kind (place_here self.old) message.now) }
+        ensures ok { OnOk result ((q : Answers) → IsLive self.old q → IsLive self.new (hears q (record { own = false; message = message.now }))) }
+        ensures err { OnErr result (self.new ≡ self.old) }
+        ensures memory { IsOkUnless result words.OutOfMemory }
+    {
+        match message {
+            Message::Update { update, seal } => self.hear_update(alloc, update, seal)?,
+            Message::Share { statement, signed } => self.hear_share(alloc, statement, signed)?,
+            Message::Certificate { statement, quorum } => {
+                self.hear_certificate(alloc, statement, quorum)?
+            }
+            _ => {}
+        }
+        Ok(())
+    }
+
+    fn hear_update(
+        &mut self,
+        alloc: Global,
+        update: &Update,
+        seal: &Bytes,
+    ) -> Result<(), WordsError>
+        ensures ok { OnOk result ((q : Answers) → IsLive self.old q → IsLive self.new (hears q (heard_update update.now seal.now))) }
+        ensures err { OnErr result (self.new ≡ self.old) }
+        ensures memory { IsOkUnless result words.OutOfMemory }
+    {
+        let last = self.clients.last(update.client);
+        let mut pending = self.pending.copy(alloc)?;
+        pending.keep(alloc, last, update, seal)?;
+        self.pending = pending;
+        Ok(())
+    }
+
+    fn hear_share(
+        &mut self,
+        alloc: Global,
+        statement: &Statement,
+        signed: &Signed,
+    ) -> Result<(), WordsError>
+        requires { IsTrue (is_kept_kind (place_here self.old) (messages.Share statement.now signed.now)) }
+        ensures ok { OnOk result ((q : Answers) → IsLive self.old q → IsLive self.new (hears q (heard_share statement.now signed.now))) }
+        ensures err { OnErr result (self.new ≡ self.old) }
+        ensures memory { IsOkUnless result words.OutOfMemory }
+    {
+        let here = self.here;
+        match statement {
+            Statement::Prepare { number, .. } => {
+                self.slots
+                    .hear_prepare(alloc, &here, *number, statement, signed)?
+            }
+            Statement::Proposal { number, .. } => {
+                self.slots
+                    .hear_proposal(alloc, &here, *number, statement, signed)?
+            }
+            Statement::Accept { number, .. } => {
+                self.slots
+                    .hear_accept(alloc, &here, *number, statement, signed)?
+            }
+            _ => {}
+        }
+        Ok(())
+    }
+
+    fn hear_certificate(
+        &mut self,
+        alloc: Global,
+        statement: &Statement,
+        quorum: &Quorum,
+    ) -> Result<(), WordsError>
+        requires { IsTrue (is_kept_kind (place_here self.old) (messages.Certificate statement.now quorum.now)) }
+        ensures ok { OnOk result ((q : Answers) → IsLive self.old q → IsLive self.new (hears q (record { own = false; message = messages.Certificate statement.now quorum.now }))) }
+        ensures err { OnErr result (self.new ≡ self.old) }
+        ensures memory { IsOkUnless result words.OutOfMemory }
+    {
+        let here = self.here;
+        if let Statement::Accept {
+            site,
+            view,
+            number,
+            value,
+        } = statement
+        {
+            self.hand
+                .keep_accept(alloc, &here, *site, *view, *number, value, quorum)?;
+        }
+        Ok(())
     }
 
     /// An equal state.
