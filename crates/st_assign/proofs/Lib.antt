@@ -1,2 +1,3 @@
 -- Lemmas.
 pub mod FitLaws
+pub mod ReasonLaws
