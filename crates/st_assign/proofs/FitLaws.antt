@@ -1,14 +1,14 @@
 -- The tables take all that a part's step changes and keeps, where no reason is against it.
-use Rattle.std.proofs.Common.{◌≡◌, ℕ, ◌+◌, ◌<◌, ◌≤◌, Bool, true, false, cond, nat_eq, nat_lt, nat_le, Option, Some, None, List, [], ◌∷◌, refl, arith, ap}
+use Rattle.std.proofs.Common.{◌≡◌, ℕ, ◌+◌, ◌<◌, Bool, true, false, cond, nat_eq, nat_lt, nat_le, Option, Some, None, refl, arith}
 use Rattle.std.proofs.Common.{subst, sym, add-zero}
 use Rattle.std.proofs.lemmas.Bool.{eq-eqb}
 use Rattle.std.proofs.Math.Nat.{mod-lt}
-use Rattle.std.specs.Prelude.{◌*◌, ◌%◌, ◌&&◌, ◌||◌, not, is_none}
+use Rattle.std.specs.Prelude.{◌&&◌, not, is_none}
 use Rattle.st_words.specs.declared.value.Update.{Update}
 use Rattle.st_words.specs.declared.value.Value.{Value}
 use Rattle.st_words.specs.declared.statement.Statement.{Statement}
 use Rattle.st_seal.specs.declared.quorum.Signed.{Signed}
-use Rattle.st_message.specs.declared.change.Change.TheVariants.{Prepared, Made}
+use Rattle.st_message.specs.declared.change.Change.TheVariants.{Prepared}
 use Rattle.st_message.specs.declared.event.Scope.{Scope}
 use Rattle.st_message.specs.declared.event.Scope.TheVariants as scopes
 use Rattle.st_message.specs.declared.message.Message.TheVariants as messages
@@ -18,9 +18,9 @@ use Rattle.st_message.specs.declared.step.Step.{Step}
 use Rattle.st_tables.specs.Window.{in_window}
 use Rattle.st_protocol.specs.Keeping.{given}
 use Rattle.st_protocol.specs.Words.{Bytes, Quorum, a_prepare, a_proposal}
-use Rattle.st_protocol.specs.State.{Here, Slots, Sealing, Share, AtPrepare, AtProposal}
-use Rattle.st_protocol.specs.Step.{idle, then, when, making, recording, keeping, putting, one_if, servers, out_of_window, rep, is_seen_share, completed, to_rep, to_site}
-use Rattle.st_protocol.specs.Assigning.{proposal_share_reasons, proposal_share_step, update_step, completes_prepare, proposes, prepare_reasons, prepare_step, assigns, keeps_assigned, assign_reasons, assign_step}
+use Rattle.st_protocol.specs.State.{Here, Slots, Sealing, AtPrepare, AtProposal}
+use Rattle.st_protocol.specs.Step.{idle, then, when, making, recording, keeping, putting, one_if, servers, out_of_window, rep, completed, to_rep, to_site}
+use Rattle.st_protocol.specs.Assigning.{proposal_share_reasons, proposal_share_step, update_step, completes_prepare, prepare_reasons, prepare_step, assigns, keeps_assigned, assign_reasons, assign_step}
 use Rattle.st_protocol.specs.Part.{first_reason}
 use Rattle.st_protocol.specs.Forced.{Forced}
 use Rattle.st_protocol.proofs.PartLaws.{none_true}

@@ -1,6 +1,6 @@
 -- Laws on reasons that are looked for in groups, and on what is looked for at one number or client.
-use Rattle.std.proofs.Common.{◌≡◌, ◌∙◌, ap, sym, ℕ, Bool, true, false, cond, nat_eq, Option, Some, None, List, [], ◌∷◌, ◌++◌, length, refl, arith}
-use Rattle.std.specs.Prelude.{◌+◌, ◌&&◌}
+use Rattle.std.proofs.Common.{◌≡◌, ◌∙◌, ap, sym, subst, ℕ, ◌≤◌, Bool, true, false, cond, nat_eq, Option, Some, None, List, [], ◌∷◌, ◌++◌, length, refl, arith}
+use Rattle.std.specs.Prelude.{◌+◌}
 use Rattle.st_words.specs.declared.deployment.TheConstants.{WINDOW}
 use Rattle.st_words.specs.declared.value.Value.{Value}
 use Rattle.st_words.specs.declared.value.Update.{Update}
@@ -8,10 +8,10 @@ use Rattle.st_seal.specs.declared.quorum.Signed.{Signed}
 use Rattle.st_message.specs.declared.reason.Reason.{Reason}
 use Rattle.st_protocol.specs.Words.{Bytes}
 use Rattle.st_protocol.specs.Keeping.{or_else}
-use Rattle.st_protocol.specs.State.{Here, Slots, Pended}
+use Rattle.st_protocol.specs.State.{Term, Here, Held, Slots, Pended}
 use Rattle.st_protocol.specs.Step.{one_if, some_below, first_below}
 use Rattle.st_protocol.specs.Part.{first_reason}
-use Rattle.st_protocol.specs.Forced.{Forced, forced_above}
+use Rattle.st_protocol.specs.Forced.{Forced, forced_of, base_of, forced_above}
 use Rattle.st_protocol.specs.Assigning.{assigns, proposes, completes_assigned, assign_reasons, is_empty, is_assigned, next_pending}
 use Rattle.st_state.specs.declared.forced.Forced as code
 use Rattle.st_state.specs.ForcedView.{forced_by}
@@ -89,3 +89,11 @@ forced_held h forced = refl
 pub forced_wanted : (h : Here) (forced : code.Forced) → (forced_by h forced).wanted ≡ forced.wanted
 unfolding forced_by
 forced_wanted h forced = refl
+
+-- what unions force has a base of at least the executed count
+pub executed_is_settled : (h : Here) (forced : code.Forced) (unions : Term → ℕ → Option Held) → forced_by h forced ≡ forced_of h unions → h.executed ≤ forced.base
+unfolding forced_by forced_of
+executed_is_settled h forced unions e =
+    let is : forced.base ≡ base_of h unions = ap (λ (f : Forced). f.base) e in
+    let most : h.executed ≤ base_of h unions = grind arith in
+    subst (λ (b : ℕ). h.executed ≤ b) (sym is) most

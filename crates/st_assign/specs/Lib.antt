@@ -3,3 +3,4 @@ pub mod Parts
 pub mod Replied
 pub mod Reasons
 pub mod Above
+pub mod FillView

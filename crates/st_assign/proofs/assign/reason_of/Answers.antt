@@ -1,7 +1,6 @@
 -- The first reason of the three groups.
 use Rattle.std.proofs.Common.{◌≡◌, ◌+◌, Some, None, refl}
 use Rattle.st_protocol.specs.Part.{first_reason}
-use Rattle.st_protocol.specs.Step.{one_if}
 use Rattle.st_state.specs.HereView.{here_of}
 use Rattle.st_state.specs.SlotsView.{slots_of}
 use Rattle.st_state.specs.ForcedView.{forced_by}
