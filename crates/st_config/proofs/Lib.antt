@@ -1,0 +1,3 @@
+-- Lemmas.
+pub mod LineLaws
+pub mod PartLaws

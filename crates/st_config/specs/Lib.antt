@@ -1,0 +1,4 @@
+-- The definitions that contracts cite.
+pub mod Header
+pub mod Parts
+pub mod Taken
