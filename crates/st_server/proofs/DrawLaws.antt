@@ -35,6 +35,14 @@ here_heard live new m sound step =
     here_is new (hears sound.answers m) (step sound.answers sound.stands)
     ∙ (here_hears sound.answers m ∙ sym (here_is live sound.answers sound.stands))
 
+pub sound_heard : (live new : Live) (m : Heard) → IsTrue (may_keep (place_here live) m) → IsSound live → ((q : Answers) → IsLive live q → IsLive new (hears q m)) → IsSound new
+sound_heard live new m may sound step =
+    record {
+      answers = hears sound.answers m;
+      stands = step sound.answers sound.stands;
+      bound = bound_hears sound.answers m (and_parts (is_taken (place_here live) m) (is_low_message m.message) may).1 sound.bound;
+    }
+
 pub drawn_sound : (made : ℕ → Option Sealing) (draft : Draft) → IsDrawn made draft → IsSound draft.live
 drawn_sound made draft drawn = record { answers = drawn.way.now; stands = drawn.draws.now; bound = drawn.bound }
 

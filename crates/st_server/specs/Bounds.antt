@@ -53,3 +53,8 @@ pub record IsSound (live : Live) : Type 0 where
   pub answers : Answers
   pub stands : IsLive live answers
   pub bound : IsBound answers
+
+-- A step that executes, and hears of, no number above a log's last.
+pub record IsLowStep (step : Step) : Type 0 where
+  pub changes : IsTrue (all_low step.changes)
+  pub heard : IsTrue (all_low_heard step.heard)

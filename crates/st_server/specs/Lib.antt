@@ -4,3 +4,5 @@ pub mod Sealing
 pub mod Replying
 pub mod Ready
 pub mod Draw
+pub mod Carried
+pub mod LiveReplies

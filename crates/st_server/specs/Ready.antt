@@ -1,5 +1,5 @@
 -- Which changes and which messages a draft may take next.
-use Rattle.std.specs.Prelude.{Bool, ◌&&◌, ◌||◌, List}
+use Rattle.std.specs.Prelude.{◌≡◌, Bool, ◌&&◌, ◌||◌, List}
 use Rattle.st_message.specs.declared.change.Change.{Change}
 use Rattle.st_message.specs.declared.change.Heard.{Heard}
 use Rattle.st_protocol.specs.State.{Here}
@@ -21,3 +21,10 @@ is_ready here xs = (all_placed here xs || all_executed here xs) && all_low xs
 -- messages that the tables take
 abbrev pub are_ready : Here → List Heard → Bool
 are_ready here ms = all_taken here ms && all_low_heard ms
+
+-- Two places that differ in their next leaf at most.
+pub record IsAlike (h k : Here) : Type 0 where
+  pub seat : h.seat ≡ k.seat
+  pub view : h.view ≡ k.view
+  pub local : h.local ≡ k.local
+  pub executed : h.executed ≡ k.executed

@@ -1,10 +1,11 @@
 -- The Reply that follows from a number's execution.
-use Rattle.std.specs.Prelude.{ℕ, ◌+◌, ◌%◌, Bool, cond, nat_eq, nat_lt, ◌&&◌, Option, Some, None, List}
+use Rattle.std.specs.Prelude.{◌≡◌, ℕ, ◌+◌, ◌%◌, Bool, cond, nat_eq, nat_lt, ◌&&◌, Option, Some, None, List}
 use Rattle.st_words.specs.declared.ids.ClientId.{ClientId}
 use Rattle.st_words.specs.declared.value.Update.{Update}
 use Rattle.st_words.specs.declared.value.Value.{Value}
 use Rattle.st_words.specs.declared.value.Value.TheVariants as values
 use Rattle.st_words.specs.declared.statement.Statement.{Statement}
+use Rattle.st_words.specs.declared.statement.Statement.TheVariants.{Reply}
 use Rattle.st_protocol.specs.Words.{a_reply}
 use Rattle.st_message.specs.declared.change.Change.{Change}
 use Rattle.st_protocol.specs.Keeping.{given, first_of}
@@ -34,3 +35,8 @@ leaf_in made = given made None (λ m. Some m.leaf)
 -- The leaf of the first Reply of a number that changes make.
 unfoldable pub reply_leaf_in : ℕ → List Change → Option ℕ
 reply_leaf_in n xs = leaf_in (first_of (sealing_in (at_reply n)) xs)
+
+-- a Reply of the number
+abbrev pub IsReplyAt : Statement → ℕ → Type 0
+IsReplyAt (Reply site client time n outcome) k = n.0 ≡ k
+IsReplyAt s k = ⊥

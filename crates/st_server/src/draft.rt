@@ -77,6 +77,7 @@ impl Draft {
         requires ready { IsTrue (may_keep (place_here self.old.live) heard) }
         ensures draws { OnOk result ((made : ℕ → Option Sealing) (way : Course) → Draws made self.old way → Draws made self.new (keeps way heard)) }
         ensures drawn { OnOk result ((made : ℕ → Option Sealing) → IsDrawn made self.old → IsDrawn made self.new) }
+        ensures sound { OnOk result (IsSound self.new.live) }
         ensures here { OnOk result (place_here self.new.live ≡ place_here self.old.live) }
         ensures memory { IsOkUnless result words.OutOfMemory }
     {
@@ -85,23 +86,25 @@ impl Draft {
         Ok(())
     }
 
-    /// Hands out a statement with its own seal, or a message as it is.
+    /// Hands out a statement with its own seal, or a message as it is; `id` is the deployment's, and
+    /// `replies` are the Replies that were made before the event, by number.
     pub fn emit<S: Sealer>(
         &mut self,
         alloc: Global,
         sealer: &mut S,
+        id: u64,
         replies: &Table<Sealing>,
         out: Out,
     ) -> Result<(), WordsError>
         requires drawn { IsDrawn (entry replies.now) self.old }
         requires capacity { (S.pen sealer.old).capacity ≡ self.old.live.here.capacity }
-        ensures draws { OnOk result ((way : Course) → Draws (entry replies.now) self.old way → Draws (entry replies.now) self.new (emits (pen_by (S.pen sealer.old) self.old.live.here.id) way out)) }
+        ensures draws { OnOk result ((way : Course) → Draws (entry replies.now) self.old way → Draws (entry replies.now) self.new (emits (pen_by (S.pen sealer.old) id) way out)) }
         ensures drawn { OnOk result (IsDrawn (entry replies.now) self.new) }
         ensures live { OnOk result (self.new.live ≡ self.old.live) }
         ensures pen { S.pen sealer.new ≡ S.pen sealer.old }
         ensures memory { IsOkUnless result words.OutOfMemory }
     {
-        let output = self.sealed(alloc, sealer, replies, out)?;
+        let output = self.sealed(alloc, sealer, id, replies, out)?;
         self.outputs.push(output)?;
         Ok(())
     }
@@ -111,12 +114,13 @@ impl Draft {
         &self,
         alloc: Global,
         sealer: &mut S,
+        id: u64,
         replies: &Table<Sealing>,
         out: Out,
     ) -> Result<Output, WordsError>
         requires drawn { IsDrawn (entry replies.now) self.now }
         requires capacity { (S.pen sealer.old).capacity ≡ self.now.live.here.capacity }
-        ensures output { IfOk result (λ output. (way : Course) → Draws (entry replies.now) self.now way → output ≡ duty.sealed (pen_by (S.pen sealer.old) self.now.live.here.id) way.now out) }
+        ensures output { IfOk result (λ output. (way : Course) → Draws (entry replies.now) self.now way → output ≡ duty.sealed (pen_by (S.pen sealer.old) id) way.now out) }
         ensures pen { S.pen sealer.new ≡ S.pen sealer.old }
         ensures memory { IsOkUnless result words.OutOfMemory }
     {
@@ -132,7 +136,7 @@ impl Draft {
                 to,
             } => {
                 let leaf = self.leaf_of(replies, &statement);
-                let signed = self.signed(alloc, sealer, leaf, &statement)?;
+                let signed = self.signed(alloc, sealer, id, leaf, &statement)?;
                 Ok(Output {
                     message: message_of(form, statement, signed),
                     to,
@@ -147,16 +151,17 @@ impl Draft {
         &self,
         alloc: Global,
         sealer: &mut S,
+        id: u64,
         leaf: Option<u32>,
         statement: &Statement,
     ) -> Result<Signed, WordsError>
         requires leaf { IfSome leaf (λ k. k < (S.pen sealer.old).capacity) }
-        ensures signed { IfOk result (λ signed. signed ≡ record { index = self.now.live.here.me.index; seal = given leaf [] (λ k. pen_by (S.pen sealer.old) self.now.live.here.id k statement.now) }) }
+        ensures signed { IfOk result (λ signed. signed ≡ record { index = self.now.live.here.me.index; seal = given leaf [] (λ k. pen_by (S.pen sealer.old) id k statement.now) }) }
         ensures pen { S.pen sealer.new ≡ S.pen sealer.old }
         ensures memory { IsOkUnless result words.OutOfMemory }
     {
         let seal = match leaf {
-            Some(leaf) => seal_statement(alloc, sealer, self.live.here.id, leaf, statement)?,
+            Some(leaf) => seal_statement(alloc, sealer, id, leaf, statement)?,
             None => Seq::new(alloc),
         };
         Ok(Signed {

@@ -1,8 +1,11 @@
 //! One server: what it is to do at an event, by its records and by what it heard.
 #![tactic(auto)]
 
+mod carry;
 mod draft;
+mod parts;
 mod sealing;
 
 pub use draft::Draft;
+pub use parts::answer_to;
 pub use sealing::seal_statement;

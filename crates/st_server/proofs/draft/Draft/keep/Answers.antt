@@ -2,7 +2,7 @@
 use Rattle.std.proofs.Common.{refl}
 use Rattle.st_protocol.specs.Duty.{Course}
 use Rattle.st_server.specs.Draw.{Draws}
-use Rattle.st_server.proofs.DrawLaws.{here_heard, draws_keep, drawn_keep}
+use Rattle.st_server.proofs.DrawLaws.{here_heard, sound_heard, draws_keep, drawn_keep}
 use Rattle.st_server.proofs.draft.Draft.keep.Goals as goal
 
 pub returns-clause-draws : goal.returns-clause-draws
@@ -19,3 +19,6 @@ returns-clause-drawn c =
 
 pub returns-clause-here : goal.returns-clause-here
 returns-clause-here c = here_heard c.args.self.now.live c.hear.new.self c.args.heard c.requires.sound c.in_ok-hear.ensures.ok
+
+pub returns-clause-sound : goal.returns-clause-sound
+returns-clause-sound c = sound_heard c.args.self.now.live c.hear.new.self c.args.heard c.requires.ready c.requires.sound c.in_ok-hear.ensures.ok

@@ -19,7 +19,7 @@ signed-requires g c =
 pub returns-in_ok-signed-in-Make-clause-output : goal.returns-in_ok-signed-in-Make-clause-output
 returns-in_ok-signed-in-Make-clause-output g c =
     λ way draws.
-    let pen = pen_by (g.S.Sealer.pen c.args.sealer.now) c.args.self.now.live.here.id in
+    let pen = pen_by (g.S.Sealer.pen c.args.sealer.now) c.args.id in
     let m = c.in-Make in
     let leaf = c.leaf_of-leaf.result in
     ap (λ (x : Message). record { message = x; to = m.to; leaf = leaf }) (c.message_of.ensures ∙ ap (λ (x : Signed). message_of m.form m.statement x) c.in_ok-signed-in-Make.ensures.signed)
