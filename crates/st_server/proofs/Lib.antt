@@ -10,3 +10,4 @@ pub mod LeafLaws
 pub mod FillLaws
 pub mod LowLaws
 pub mod AnswerLaws
+pub mod ServeLaws

@@ -6,3 +6,4 @@ pub mod Ready
 pub mod Draw
 pub mod Carried
 pub mod LiveReplies
+pub mod Serving

@@ -5,7 +5,9 @@ mod carry;
 mod draft;
 mod parts;
 mod sealing;
+mod server;
 
 pub use draft::Draft;
 pub use parts::answer_to;
 pub use sealing::seal_statement;
+pub use server::{Planned, Server};
