@@ -12,8 +12,9 @@ ghost use Rattle.st_shares.specs.Known.{IsKnown};
 ghost use Rattle.st_assign.specs.FillView as view;
 ghost use Rattle.st_assign.specs.FillView.{filling_of};
 
-use crate::above::{is_forced_above, next_pending};
+use crate::above::is_forced_above;
 use crate::prepares::prepare_at;
+use crate::waiting::next_pending;
 use st_fields::{Bytes, Copied, WordsError};
 use st_message::{Form, Here, Step};
 use st_shares::{Slot, idle, making, rep, then, to_site};

@@ -9,6 +9,7 @@ mod prepare;
 mod prepares;
 mod proposal_share;
 mod update;
+mod waiting;
 
 pub use assign::on_assign;
 pub use filled::fill;

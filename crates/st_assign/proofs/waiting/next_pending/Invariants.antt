@@ -5,7 +5,7 @@ use Rattle.st_state.specs.HereView.{Serve, here_of}
 use Rattle.st_state.specs.ClientsView.{last_of, pending_of}
 use Rattle.st_state.specs.SlotsView.{slots_of}
 use Rattle.st_assign.specs.Above.{unassigned}
-use Rattle.st_assign.proofs.above.next_pending.Given as goal
+use Rattle.st_assign.proofs.waiting.next_pending.Given as goal
 
 abbrev pub invariant-loop-client : goal.invariant-loop-client
 invariant-loop-client l =

@@ -6,7 +6,7 @@ use Rattle.st_state.specs.SlotsView.{slots_of}
 use Rattle.st_assign.specs.Above.{is_assigned_at}
 use Rattle.st_protocol.proofs.BelowLaws.{some_below_found}
 use Rattle.st_assign.proofs.ReasonLaws.{is_assigned_by}
-use Rattle.st_assign.proofs.above.is_assigned.Goals as goal
+use Rattle.st_assign.proofs.waiting.is_assigned.Goals as goal
 
 pub returns-then-is_assigned_at : goal.returns-then-is_assigned_at
 returns-then-is_assigned_at c =

@@ -7,7 +7,7 @@ use Rattle.st_state.specs.SlotsView.{slots_of}
 use Rattle.st_assign.specs.Above.{unassigned}
 use Rattle.st_protocol.proofs.BelowLaws.{first_below_found}
 use Rattle.st_assign.proofs.ReasonLaws.{next_pending_by}
-use Rattle.st_assign.proofs.above.next_pending.Goals as goal
+use Rattle.st_assign.proofs.waiting.next_pending.Goals as goal
 
 pub returns-in-Some : goal.returns-in-Some
 returns-in-Some c =
