@@ -1,0 +1,5 @@
+-- The definitions that contracts cite.
+pub mod Answers
+pub mod Exit
+pub mod Outcomes
+pub mod Replay
