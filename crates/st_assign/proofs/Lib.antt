@@ -1,2 +1,4 @@
 -- Lemmas.
 pub mod FitLaws
+pub mod ReasonLaws
+pub mod FillLaws

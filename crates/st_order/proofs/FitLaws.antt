@@ -1,14 +1,13 @@
 -- The tables take all that a part's step changes and keeps, where no reason is against it.
-use Rattle.std.proofs.Common.{◌≡◌, ℕ, ◌+◌, ◌<◌, ◌≤◌, Bool, true, false, nat_eq, nat_lt, nat_le, Option, Some, None, List, [], ◌∷◌, refl, arith, ap}
+use Rattle.std.proofs.Common.{◌≡◌, ℕ, ◌+◌, ◌<◌, true, false, nat_eq, nat_lt, nat_le, None, refl, arith}
 use Rattle.std.proofs.lemmas.Bool.{eq-eqb}
-use Rattle.std.specs.Prelude.{◌&&◌, ◌||◌, not}
 use Rattle.st_words.specs.declared.value.Value.{Value}
 use Rattle.st_seal.specs.declared.quorum.Signed.{Signed}
 use Rattle.st_message.specs.declared.event.Scope.TheVariants as scopes
 use Rattle.st_tables.specs.Window.{in_window}
 use Rattle.st_protocol.specs.Words.{Quorum, an_accept}
 use Rattle.st_protocol.specs.State.{Here, Slots, AtAccept}
-use Rattle.st_protocol.specs.Step.{servers, out_of_window, rep, is_seen_share}
+use Rattle.st_protocol.specs.Step.{servers, out_of_window}
 use Rattle.st_protocol.specs.Ordering.{accept_share_reasons, accept_share_step, proposal_reasons, proposal_step}
 use Rattle.st_protocol.specs.Part.{first_reason}
 use Rattle.st_protocol.proofs.PartLaws.{none_true}

@@ -1,2 +1,4 @@
 -- Lemmas.
 pub mod FitLaws
+pub mod InHandLaws
+pub mod AcceptLaws

@@ -1,4 +1,6 @@
--- What each part answers to a message; one of another kind isn't its own.
+-- What each part answers to a message; one of another kind isn't its own. And which number comes next.
+use Rattle.std.specs.Prelude.{◌+◌, cond, Option, Some, None, is_some}
+use Rattle.st_words.specs.declared.ids.Number.{Number}
 use Rattle.st_words.specs.declared.statement.Statement.{Statement}
 use Rattle.st_words.specs.declared.statement.Statement.TheVariants.{Proposal, Accept}
 use Rattle.st_message.specs.declared.message.Message.{Message}
@@ -7,7 +9,7 @@ use Rattle.st_message.specs.declared.reason.Reason.TheVariants.{NotMine}
 use Rattle.st_protocol.specs.Words.{Quorum}
 use Rattle.st_protocol.specs.State.{Here, Slots, Hand}
 use Rattle.st_protocol.specs.Step.{Answer, Refused}
-use Rattle.st_protocol.specs.Ordering.{on_accept_share, on_proposal, on_accept}
+use Rattle.st_protocol.specs.Ordering.{in_hand, on_accept_share, on_proposal, on_accept}
 
 -- to a share of an Accept
 abbrev pub accept_share_answer : Here → Slots → Message → Answer
@@ -23,3 +25,7 @@ proposal_answer here slots s q = Refused NotMine
 abbrev pub accept_answer : Here → Hand → Statement → Quorum → Answer
 accept_answer here hand (Accept site view number value) q = on_accept here hand site.0 view.0 number.0 value q
 accept_answer here hand s q = Refused NotMine
+
+-- the number after those that are executed, where it is in hand
+abbrev pub next_number : Here → Hand → Option Number
+next_number here hand = cond (is_some (in_hand here hand (here.executed + 1))) (Some (record { 0 = here.executed + 1 })) None

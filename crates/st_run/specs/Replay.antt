@@ -12,7 +12,7 @@ use Rattle.st_protocol.specs.Keeping.{given}
 use Rattle.st_protocol.specs.World.{Deployment, Fault, BadReference, TooMany, World, deployment_of, empty, passed}
 use Rattle.st_protocol.specs.Schedule.{world_of}
 use Rattle.st_protocol.specs.Report.{came_from, report_text}
-use Rattle.st_server.specs.Service.{list_serve}
+use Rattle.st_live.specs.Service.{list_serve}
 use Rattle.st_input.specs.declared.input.Input.{Input}
 use Rattle.st_run.specs.declared.replays.ReplayError.{ReplayError}
 use Rattle.st_run.specs.declared.replays.ReplayError.TheVariants as errors

@@ -1,7 +1,6 @@
 -- Lemmas.
-pub mod CutLaws
-pub mod NoteLaws
-pub mod HearLaws
-pub mod SealedLaws
-pub mod LiveLaws
-pub mod PlacedLaws
+pub mod SealingLaws
+pub mod FirstLaws
+pub mod BoundLaws
+pub mod DrawLaws
+pub mod EmitLaws

@@ -1,3 +1,6 @@
 -- The definitions that contracts cite.
-pub mod Service
-pub mod LiveView
+pub mod Bounds
+pub mod Sealing
+pub mod Replying
+pub mod Ready
+pub mod Draw

@@ -1,6 +1,8 @@
 //! One server: what it is to do at an event, by its records and by what it heard.
 #![tactic(auto)]
 
-mod live;
+mod draft;
+mod sealing;
 
-pub use live::Live;
+pub use draft::Draft;
+pub use sealing::seal_statement;

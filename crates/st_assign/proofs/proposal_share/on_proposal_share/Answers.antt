@@ -1,5 +1,5 @@
 -- The first reason, or else the step, which is taken.
-use Rattle.std.proofs.Common.{◌≡◌, ◌<◌, ◌+◌, ◌*◌, None, subst, sym}
+use Rattle.std.proofs.Common.{◌≡◌, ◌<◌, ◌+◌, ◌*◌, subst, sym}
 use Rattle.st_protocol.specs.Assigning.{proposal_share_reasons, proposal_share_step}
 use Rattle.st_protocol.proofs.PartLaws.{refused_by}
 use Rattle.st_state.specs.HereView.{here_of}

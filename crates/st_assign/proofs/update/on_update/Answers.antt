@@ -1,5 +1,5 @@
 -- The first reason, or else the step, which is taken.
-use Rattle.std.proofs.Common.{◌≡◌, subst, sym}
+use Rattle.std.proofs.Common.{subst, sym}
 use Rattle.std.specs.Option.{option_copied}
 use Rattle.st_protocol.specs.Assigning.{update_reasons, update_step}
 use Rattle.st_protocol.proofs.PartLaws.{refused_by, steps_by}

@@ -1,8 +1,6 @@
 -- What no reason is against is taken.
-use Rattle.std.proofs.Common.{◌≡◌, ◌<◌, ◌+◌, ◌*◌, None, subst, sym}
-use Rattle.st_protocol.specs.Ordering.{accept_share_reasons, accept_share_step}
-use Rattle.st_protocol.specs.Part.{first_reason}
-use Rattle.st_message.specs.declared.step.Step.{Step}
+use Rattle.std.proofs.Common.{◌≡◌, ◌<◌, ◌+◌, ◌*◌, subst, sym}
+use Rattle.st_protocol.specs.Ordering.{accept_share_step}
 use Rattle.st_state.specs.HereView.{here_of}
 use Rattle.st_state.specs.Placed.{Fits}
 use Rattle.st_state.specs.SlotsView.{slots_of}

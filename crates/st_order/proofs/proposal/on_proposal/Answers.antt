@@ -1,5 +1,5 @@
 -- What no reason is against is taken.
-use Rattle.std.proofs.Common.{◌≡◌, None, subst, sym}
+use Rattle.std.proofs.Common.{◌≡◌, subst, sym}
 use Rattle.st_protocol.specs.Ordering.{proposal_step}
 use Rattle.st_state.specs.HereView.{here_of}
 use Rattle.st_state.specs.Placed.{Fits}
