@@ -6,9 +6,7 @@ use Rattle.st_words.specs.declared.deployment.SealKind.TheVariants as seal_kinds
 use Rattle.st_words.specs.declared.value.Value.TheVariants as values
 use Rattle.st_message.specs.declared.log.Ran.TheVariants as rans
 use Rattle.st_schedule.specs.declared.line.Line.TheVariants as lines
-use Rattle.st_report.specs.declared.rows.Header.{Header}
 use Rattle.st_report.specs.declared.rows.DoneWords.TheVariants as words
-use Rattle.st_report.specs.declared.rows.DoneRow.{DoneRow}
 use Rattle.st_report.specs.declared.rows.StateWord.TheVariants as states
 use Rattle.st_report.specs.declared.rows.Rows.{Rows}
 use Rattle.st_input.specs.declared.input.Input.{Input}

@@ -1,8 +1,9 @@
 ghost use Rattle.std.specs.Prelude.{◌≡◌, ◌≢◌, ◌≤◌, ◌+◌, ℕ, List, Some, Ok, Err, true, false, map, drop, string_bytes, IfOk};
 ghost use Rattle.st_io.specs.Causes.{Rose};
 ghost use Rattle.st_io.specs.Streams.{Adds, AddsFront};
-ghost use Rattle.st_run.specs.Answers.{answer_of, is_replay, usage};
-ghost use Rattle.st_run.specs.Outcomes.{Gave, GaveFront, IsAnswered};
+ghost use Rattle.st_run.specs.Answers.{is_replay};
+ghost use Rattle.st_run.specs.declared.answer.Answer.{Answer};
+ghost use Rattle.st_run.specs.Outcomes.{Gave, GaveFront, IsAnswerTo, IsAnswered};
 ghost use Rattle.st_run.specs.declared.status.Status.TheVariants as statuses;
 ghost use Rattle.st_run.specs.declared.program.Stopped.TheVariants as stops;
 
@@ -43,8 +44,7 @@ pub fn run<R: Replays, S: Source, K: Sink>(
     source: &mut S,
     sink: &mut K,
 ) -> Status
-    ensures answered { (input : List ℕ) → S.left source.old ≡ Some input → IsAnswered result → Gave result (answer_of (map string_bytes words.now.items) input) (K.taken sink.old) (K.taken sink.new) }
-    ensures usage { is_replay (map string_bytes words.now.items) ≡ false → IsAnswered result → Gave result usage (K.taken sink.old) (K.taken sink.new) }
+    ensures answered { (answer : Answer) → IsAnswerTo (map string_bytes words.now.items) (S.left source.old) answer → IsAnswered result → Gave result answer (K.taken sink.old) (K.taken sink.new) }
     ensures unread { is_replay (map string_bytes words.now.items) ≡ false → S.left source.new ≡ S.left source.old }
     ensures rest { is_replay (map string_bytes words.now.items) ≡ true → (input : List ℕ) → S.left source.old ≡ Some input → IsAnswered result → S.left source.new ≡ Some (drop (MOST_INPUT + 1) input) }
     ensures whole { IsAnswered result → result ≢ statuses.TooLarge → S.faults source.new ≡ S.faults source.old }
@@ -52,8 +52,8 @@ pub fn run<R: Replays, S: Source, K: Sink>(
     ensures write { result ≡ statuses.WriteFault → Rose (K.faults sink.old) (K.faults sink.new) }
     ensures no_fault { result ≢ statuses.WriteFault → result ≢ statuses.OutOfMemory → K.faults sink.new ≡ K.faults sink.old }
     ensures silent { result ≡ statuses.ReadFault → K.taken sink.new ≡ K.taken sink.old }
-    ensures cut { (input : List ℕ) → S.left source.old ≡ Some input → result ≡ statuses.WriteFault → AddsFront (K.taken sink.old) (K.taken sink.new) (answer_of (map string_bytes words.now.items) input).text }
-    ensures memory { (input : List ℕ) → S.left source.old ≡ Some input → result ≡ statuses.OutOfMemory → GaveFront (answer_of (map string_bytes words.now.items) input) (K.taken sink.old) (K.taken sink.new) }
+    ensures cut { (answer : Answer) → IsAnswerTo (map string_bytes words.now.items) (S.left source.old) answer → result ≡ statuses.WriteFault → AddsFront (K.taken sink.old) (K.taken sink.new) answer.text }
+    ensures memory { (answer : Answer) → IsAnswerTo (map string_bytes words.now.items) (S.left source.old) answer → result ≡ statuses.OutOfMemory → GaveFront answer (K.taken sink.old) (K.taken sink.new) }
 {
     match answer::<R, S>(alloc, words.as_slice(), source) {
         Ok(answer) => give(sink, &answer),
@@ -63,14 +63,12 @@ pub fn run<R: Replays, S: Source, K: Sink>(
 }
 
 /// The answer to the words and, where they are `replay`, to what the source gives.
-#[tactic(auto, unfolding(crate::specs::Answers::answer_of))]
 fn answer<R: Replays, S: Source>(
     alloc: Global,
     words: &[String],
     source: &mut S,
 ) -> Result<Answer, Stopped>
-    ensures told { (input : List ℕ) → S.left source.old ≡ Some input → IfOk result (λ answer. answer ≡ answer_of (map string_bytes words.now) input) }
-    ensures usage { is_replay (map string_bytes words.now) ≡ false → IfOk result (λ answer. answer ≡ usage) }
+    ensures told { (answer : Answer) → IsAnswerTo (map string_bytes words.now) (S.left source.old) answer → IfOk result (λ x. x ≡ answer) }
     ensures unread { is_replay (map string_bytes words.now) ≡ false → S.left source.new ≡ S.left source.old }
     ensures rest { is_replay (map string_bytes words.now) ≡ true → (input : List ℕ) → S.left source.old ≡ Some input → IfOk result (λ _. S.left source.new ≡ Some (drop (MOST_INPUT + 1) input)) }
     ensures whole { IfOk result (λ answer. answer.status ≢ statuses.TooLarge → S.faults source.new ≡ S.faults source.old) }

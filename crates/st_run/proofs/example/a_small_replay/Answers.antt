@@ -1,5 +1,5 @@
 -- By computing the worlds.
-use Rattle.std.proofs.Common.{◌≡◌, ◌+◌, ℕ, List, refl}
+use Rattle.std.proofs.Common.{◌≡◌, ℕ, List, refl}
 use Rattle.st_report.specs.Text.{report}
 use Rattle.st_protocol.specs.World.{BadReference}
 use Rattle.st_run.specs.Example.{small_input, small_rows}
