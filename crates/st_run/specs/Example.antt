@@ -1,5 +1,5 @@
 -- The smallest input that does something, what it comes to, and one that names what does not exist.
-use Rattle.std.specs.Prelude.{ℕ, List, [], ◌∷◌, Some}
+use Rattle.std.specs.Prelude.{ℕ, List, [], ◌∷◌, Some, None}
 use Rattle.st_words.specs.declared.deployment.Deployment.{Deployment}
 use Rattle.st_words.specs.declared.deployment.ServiceKind.TheVariants as services
 use Rattle.st_words.specs.declared.deployment.SealKind.TheVariants as seal_kinds
@@ -52,5 +52,23 @@ small_rows id =
           ∷ [];
       clients = record { client = record { 0 = 0 }; time = 1; result = Some (record { 0 = 1 }, first_result) } ∷ [];
       sent = 7;
+      undelivered = 0;
+    }
+
+-- no event lines
+abbrev pub idle_input : ℕ → List ℕ → Input
+idle_input id seed = record { deployment = small_deployment id seed; lines = [] }
+
+-- What no event lines come to: nothing was sent, and nothing ran.
+abbrev pub idle_rows : ℕ → Rows
+idle_rows id =
+    record {
+      header = record { id = id; sites = 1; f = 0; clients = 1 };
+      done = [];
+      servers =
+          record { who = record { site = 0; index = 0 }; state = states.Running; view = record { 0 = 0 }; local = record { 0 = 0 }; executed = 0; leaf = 0; log = [] }
+          ∷ [];
+      clients = record { client = record { 0 = 0 }; time = 0; result = None } ∷ [];
+      sent = 0;
       undelivered = 0;
     }

@@ -51,3 +51,15 @@ fn a_failed_write_goes_before_the_answer(rt: HostRuntime) -> Result<(), Fail> {
     assert!(rt; sink.taken() == b"bad".as_slice());
     Ok(())
 }
+
+#[test]
+fn a_failed_read_writes_nothing(rt: HostRuntime) -> Result<(), Fail> {
+    let alloc = rt.alloc();
+    let words = vec![in alloc; String::from_str(alloc, "replay")?]?;
+    let mut source = MemorySource::new(alloc, b"---\n", &[1])?;
+    let mut sink = MemorySink::new(alloc, 64, &[])?;
+    let status = run::<Refusing, MemorySource, MemorySink>(alloc, &words, &mut source, &mut sink);
+    assert_eq!(rt; status.exit_code(), 2);
+    assert!(rt; sink.taken().is_empty());
+    Ok(())
+}
