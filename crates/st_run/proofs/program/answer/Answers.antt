@@ -1,0 +1,42 @@
+-- By the words and by what was read.
+use Rattle.std.proofs.Common.{◌∙◌, ◌≤◌, Some, length, ap, sym, arith}
+use Rattle.std.proofs.lemmas.List.{drop_all}
+use Rattle.st_run.specs.declared.answer.Answer.{Answer}
+use Rattle.st_run.specs.Answers.{bytes_answer}
+use Rattle.st_run.proofs.AnswerLaws.{usage_answered, too_large_answered, too_large_is, bytes_answered, of_replay, of_many_bytes, words_answer, replayed_answer}
+use Rattle.st_run.proofs.program.answer.Goals as goal
+
+pub returns-then-not-is_replay-clause-answers : goal.returns-then-not-is_replay-clause-answers
+returns-then-not-is_replay-clause-answers g c = rw c.in_ok-usage.ensures usage_answered
+
+pub returns-then-not-is_replay-clause-told : goal.returns-then-not-is_replay-clause-told
+returns-then-not-is_replay-clause-told g c = λ answer is. c.in_ok-usage.ensures ∙ words_answer _ _ answer (sym c.is_replay.ensures ∙ c.if-not-is_replay.true) is
+
+pub returns-in_ok-bytes_answer-in-Ok-clause-told : goal.returns-in_ok-bytes_answer-in-Ok-clause-told
+returns-in_ok-bytes_answer-in-Ok-clause-told g c = λ answer is.
+    let test = sym c.is_replay.ensures ∙ c.if-not-is_replay.false in
+    replayed_answer _ _ answer c.in_ok-bytes_answer-in-Ok.field-0 test is
+    (λ input told. c.in_ok-bytes_answer-in-Ok.ensures ∙ (ap bytes_answer (c.as_slice.ensures ∙ (c.in-Ok.ensures.told input told).0) ∙ sym (of_replay _ input test)))
+
+pub returns-in_ok-bytes_answer-in-Ok-clause-answers : goal.returns-in_ok-bytes_answer-in-Ok-clause-answers
+returns-in_ok-bytes_answer-in-Ok-clause-answers g c = rw c.in_ok-bytes_answer-in-Ok.ensures (bytes_answered c.as_slice.result.now)
+
+pub returns-in_ok-too_large-in-Err-TooLong-clause-told : goal.returns-in_ok-too_large-in-Err-TooLong-clause-told
+returns-in_ok-too_large-in-Err-TooLong-clause-told g c = λ answer is.
+    let test = sym c.is_replay.ensures ∙ c.if-not-is_replay.false in
+    replayed_answer _ _ answer c.in_ok-too_large-in-Err-TooLong.field-0 test is
+    (λ input told. c.in_ok-too_large-in-Err-TooLong.ensures ∙ sym (of_many_bytes _ input test (rw c.in-Err-TooLong.field-0-is at (c.in-Err-TooLong.ensures.told input told)).0))
+
+pub returns-in_ok-too_large-in-Err-TooLong-clause-answers : goal.returns-in_ok-too_large-in-Err-TooLong-clause-answers
+returns-in_ok-too_large-in-Err-TooLong-clause-answers g c = rw c.in_ok-too_large-in-Err-TooLong.ensures too_large_answered
+
+pub returns-in_ok-bytes_answer-in-Ok-clause-rest : goal.returns-in_ok-bytes_answer-in-Ok-clause-rest
+returns-in_ok-bytes_answer-in-Ok-clause-rest g c = λ test input told.
+    let few : length input ≤ 67108864 = (c.in-Ok.ensures.told input told).1 in
+    (c.in-Ok.ensures.told input told).2 ∙ ap Some (sym (drop_all 67108865 input (omega arith)))
+
+pub returns-in_ok-too_large-in-Err-TooLong-clause-rest : goal.returns-in_ok-too_large-in-Err-TooLong-clause-rest
+returns-in_ok-too_large-in-Err-TooLong-clause-rest g c = λ test input told. (rw c.in-Err-TooLong.field-0-is at (c.in-Err-TooLong.ensures.told input told)).1
+
+pub returns-in_ok-too_large-in-Err-TooLong-clause-whole : goal.returns-in_ok-too_large-in-Err-TooLong-clause-whole
+returns-in_ok-too_large-in-Err-TooLong-clause-whole g c = λ other. absurd (other (ap (λ (a : Answer). a.status) c.in_ok-too_large-in-Err-TooLong.ensures ∙ too_large_is))

@@ -1,0 +1,58 @@
+-- What replaying an input comes to: its report, or what ended its world.
+use Rattle.std.specs.Prelude.{◌≡◌, ℕ, List, map, Result, Ok, Err}
+use Rattle.st_words.specs.declared.ids.Who.{Who}
+use Rattle.st_words.specs.declared.statement.Statement.{Statement}
+use Rattle.st_words.specs.declared.deployment as words
+use Rattle.st_words.specs.Spelling.{statement_spelling}
+use Rattle.st_seal.specs.Scheme.{scheme_of}
+use Rattle.st_seal.specs.Keyed.{sealed_by}
+use Rattle.st_message.specs.declared.message.Message.{Message}
+use Rattle.st_schedule.specs.declared.line.Line.{Line}
+use Rattle.st_protocol.specs.Keeping.{given}
+use Rattle.st_protocol.specs.World.{Deployment, Fault, BadReference, TooMany, World, deployment_of, empty, passed}
+use Rattle.st_protocol.specs.Schedule.{world_of}
+use Rattle.st_protocol.specs.Report.{came_from, report_text}
+use Rattle.st_live.specs.Service.{list_serve}
+use Rattle.st_input.specs.declared.input.Input.{Input}
+use Rattle.st_run.specs.declared.replays.ReplayError.{ReplayError}
+use Rattle.st_run.specs.declared.replays.ReplayError.TheVariants as errors
+
+-- What a replay comes to.
+pub data Replayed : Type 0 where
+  Reported : (text : List ℕ) → Replayed
+  Ended : (fault : Fault) → Replayed
+
+-- the keyed seal of a party, with a leaf, over a statement's bytes
+unfoldable pub keyed_seals : words.Deployment.Deployment → Who → ℕ → Statement → List ℕ
+keyed_seals d who leaf s = sealed_by (scheme_of d) who leaf (statement_spelling d.id s)
+
+-- the deployment of an input: it drives the list service, and passes messages as they are
+unfoldable pub world_deployment : words.Deployment.Deployment → Deployment Message
+world_deployment d = deployment_of d list_serve (passed (keyed_seals d))
+
+-- the events of an input
+abbrev pub events_of : Input → List Line
+events_of input = map (λ x. x.line) input.lines
+
+-- the event lines of an input with their numbers
+abbrev pub lines_of : Input → List (ℕ × Line)
+lines_of input = map (λ x. (x.number, x.line)) input.lines
+
+-- the world of an input's events, in its deployment
+abbrev pub world_in : Input → World Message
+world_in input = world_of (world_deployment input.deployment) (events_of input)
+
+-- the report of an input's world
+abbrev pub report_of : Input → List ℕ
+report_of input = report_text (world_deployment input.deployment) (came_from (world_deployment input.deployment) empty (lines_of input)) (world_in input)
+
+-- The report of an input, unless its world ended.
+unfoldable pub replay_of : Input → Replayed
+replay_of input = given (world_in input).ended (Reported (report_of input)) Ended
+
+-- what replaying answers, unless memory is refused
+abbrev pub IsReplay : Result (List ℕ) ReplayError → Replayed → Type 0
+IsReplay (Ok text) replayed = replayed ≡ Reported text
+IsReplay (Err errors.BadReference) replayed = replayed ≡ Ended BadReference
+IsReplay (Err errors.TooMany) replayed = (count : ℕ) × (replayed ≡ Ended (TooMany count))
+IsReplay (Err errors.OutOfMemory) replayed = Unit {0}

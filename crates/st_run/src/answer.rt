@@ -1,0 +1,104 @@
+ghost use Rattle.std.specs.Prelude.{◌≡◌, ◌≤◌, ◌∷◌, ◌++◌, [], map, length, string_bytes, IfOk, ◌↔◌};
+ghost use Rattle.st_run.specs.Answers.{answer_in, bad_input, bytes_answer, input_answer, is_replay, line, replay_answer, too_large, usage};
+ghost use Rattle.st_run.specs.Replay.{replay_of};
+ghost use Rattle.st_input.specs.Input.{input_of};
+
+use crate::replays::{ReplayError, Replays};
+use crate::status::Status;
+use st_fields::{Bytes, Seq, WordsError};
+use st_input::{Input, InputError, MOST_INPUT, read_input};
+use std::alloc::{AllocError, Global};
+
+/// What a run answers.
+#[derive(Debug, Drop)]
+pub struct Answer {
+    pub status: Status,
+    pub text: Bytes,
+}
+
+/// Whether the words are the one word `replay`.
+#[tactic(auto, unfolding(crate::specs::Answers::is_replay))]
+pub(crate) fn is_replay(words: &[String]) -> bool
+    ensures { result ≡ is_replay (map string_bytes words.now) }
+{
+    match words {
+        [word] => word.as_str() == "replay",
+        _ => false,
+    }
+}
+
+/// A text and a newline.
+fn line(alloc: Global, text: &str) -> Result<Bytes, WordsError>
+    ensures { IfOk result (λ bytes. bytes ≡ line text.now) }
+{
+    let mut bytes = Seq::from_slice(alloc, text.as_bytes())?;
+    bytes.push(b'\n')?;
+    Ok(bytes)
+}
+
+/// How the program is called.
+#[tactic(auto, unfolding(crate::specs::Answers::usage))]
+pub(crate) fn usage(alloc: Global) -> Result<Answer, WordsError>
+    ensures { IfOk result (λ answer. answer ≡ usage) }
+{
+    let text = line(
+        alloc,
+        "usage: steward replay | demo SEED COUNT | node WHO --turns T",
+    )?;
+    Ok(Answer {
+        status: Status::Usage,
+        text,
+    })
+}
+
+/// The input is none that is taken.
+#[tactic(auto, unfolding(crate::specs::Answers::bad_input))]
+fn bad_input(alloc: Global) -> Result<Answer, WordsError>
+    ensures { IfOk result (λ answer. answer ≡ bad_input) }
+{
+    let text = line(alloc, "bad input")?;
+    Ok(Answer {
+        status: Status::BadInput,
+        text,
+    })
+}
+
+/// The input is too long, or too many messages would be sent.
+#[tactic(auto, unfolding(crate::specs::Answers::too_large))]
+pub(crate) fn too_large(alloc: Global) -> Result<Answer, WordsError>
+    ensures { IfOk result (λ answer. answer ≡ too_large) }
+{
+    let text = line(alloc, "too large")?;
+    Ok(Answer {
+        status: Status::TooLarge,
+        text,
+    })
+}
+
+/// The answer to an input's bytes.
+#[tactic(auto, unfolding(crate::specs::Answers::bytes_answer))]
+pub(crate) fn bytes_answer<R: Replays>(alloc: Global, bytes: &[u8]) -> Result<Answer, WordsError>
+    requires { length bytes.now ≤ MOST_INPUT }
+    ensures { IfOk result (λ answer. answer ≡ bytes_answer bytes.now) }
+{
+    match read_input(alloc, bytes) {
+        Ok(input) => replay_answer::<R>(alloc, &input),
+        Err(InputError::BadInput) => bad_input(alloc),
+        Err(InputError::OutOfMemory) => Err(WordsError::OutOfMemory),
+    }
+}
+
+/// The answer to a replayed input.
+fn replay_answer<R: Replays>(alloc: Global, input: &Input) -> Result<Answer, WordsError>
+    ensures { IfOk result (λ answer. answer ≡ replay_answer (replay_of input.now)) }
+{
+    match R::replay(alloc, input) {
+        Ok(text) => Ok(Answer {
+            status: Status::Ok,
+            text,
+        }),
+        Err(ReplayError::BadReference) => bad_input(alloc),
+        Err(ReplayError::TooMany) => too_large(alloc),
+        Err(ReplayError::OutOfMemory) => Err(WordsError::OutOfMemory),
+    }
+}
