@@ -1,18 +1,12 @@
 -- What replaying an input comes to: its report, or what ended its world.
 use Rattle.std.specs.Prelude.{◌≡◌, ℕ, List, map, Result, Ok, Err}
-use Rattle.st_words.specs.declared.ids.Who.{Who}
-use Rattle.st_words.specs.declared.statement.Statement.{Statement}
-use Rattle.st_words.specs.declared.deployment as words
-use Rattle.st_words.specs.Spelling.{statement_spelling}
-use Rattle.st_seal.specs.Scheme.{scheme_of}
-use Rattle.st_seal.specs.Keyed.{sealed_by}
 use Rattle.st_message.specs.declared.message.Message.{Message}
 use Rattle.st_schedule.specs.declared.line.Line.{Line}
 use Rattle.st_protocol.specs.Keeping.{given}
-use Rattle.st_protocol.specs.World.{Deployment, Fault, BadReference, TooMany, World, deployment_of, empty, passed}
+use Rattle.st_protocol.specs.World.{Deployment, Fault, BadReference, TooMany, World, empty}
 use Rattle.st_protocol.specs.Schedule.{world_of}
 use Rattle.st_protocol.specs.Report.{came_from, report_text}
-use Rattle.st_live.specs.Service.{list_serve}
+use Rattle.st_server.specs.Deployed.{world_deployment}
 use Rattle.st_input.specs.declared.input.Input.{Input}
 use Rattle.st_run.specs.declared.replays.ReplayError.{ReplayError}
 use Rattle.st_run.specs.declared.replays.ReplayError.TheVariants as errors
@@ -21,14 +15,6 @@ use Rattle.st_run.specs.declared.replays.ReplayError.TheVariants as errors
 pub data Replayed : Type 0 where
   Reported : (text : List ℕ) → Replayed
   Ended : (fault : Fault) → Replayed
-
--- the keyed seal of a party, with a leaf, over a statement's bytes
-unfoldable pub keyed_seals : words.Deployment.Deployment → Who → ℕ → Statement → List ℕ
-keyed_seals d who leaf s = sealed_by (scheme_of d) who leaf (statement_spelling d.id s)
-
--- the deployment of an input: it drives the list service, and passes messages as they are
-unfoldable pub world_deployment : words.Deployment.Deployment → Deployment Message
-world_deployment d = deployment_of d list_serve (passed (keyed_seals d))
 
 -- the events of an input
 abbrev pub events_of : Input → List Line

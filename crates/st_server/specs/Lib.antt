@@ -7,3 +7,4 @@ pub mod Draw
 pub mod Carried
 pub mod LiveReplies
 pub mod Serving
+pub mod Deployed

@@ -38,10 +38,14 @@ pub record IsServing (server : Server) : Type 0 where
   pub stands : StandsBy server answers
 
 -- the server whose share a message is, and the site whose Accept certificate it is, are of the deployment
+abbrev pub knows_sender_of : ℕ → ℕ → Message → Bool
+knows_sender_of sites f (messages.Share s signed) = nat_lt signed.index (3 * f + 1)
+knows_sender_of sites f (messages.Certificate (Accept site view number value) q) = nat_lt site.0 sites
+knows_sender_of sites f m = true
+
+-- the same, of a server's deployment
 abbrev pub knows_sender : Seat → Message → Bool
-knows_sender seat (messages.Share s signed) = nat_lt signed.index (3 * seat.f + 1)
-knows_sender seat (messages.Certificate (Accept site view number value) q) = nat_lt site.0 seat.sites
-knows_sender seat m = true
+knows_sender seat m = knows_sender_of seat.sites seat.f m
 
 -- a message as a server of this seat reads it
 abbrev pub read_sender : Seat → Message → Reading

@@ -18,7 +18,8 @@ use Rattle.st_protocol.specs.Step.{agreeing, all_below, complete, count_below, f
 use Rattle.st_protocol.specs.Words.{same_items, same_statement}
 use Rattle.st_protocol.specs.World.{comes_to, delivers, empty, ends, first_bad, fresh_customer, fresh_node, hands, hands_one, has_handed, has_made, is_listed, notes_seal, on_checked_reply, pairs_to, sends_to, sent_size, serves, uses_leaf, with_customer, with_node, with_waiting}
 use Rattle.st_live.specs.Service.{list_serve}
-use Rattle.st_run.specs.Replay.{keyed_seals, replay_of, world_deployment}
+use Rattle.st_server.specs.Deployed.{keyed_seals, world_deployment}
+use Rattle.st_run.specs.Replay.{replay_of}
 use Rattle.st_run.proofs.example.a_small_replay.Goals as goal
 
 comes_to_rows : (id : ℕ) (seed : List ℕ) → replay_of (small_input id seed 0) ≡ Reported (report (small_rows id))
