@@ -37,6 +37,23 @@ fn one_reply_is_the_result_where_no_server_is_faulty(rt: HostRuntime) -> Result<
 }
 
 #[test]
+fn two_equal_replies_of_a_site_are_the_result(rt: HostRuntime) -> Result<(), Fail> {
+    let alloc = rt.alloc();
+    let mut client = Client::new();
+    if client.time() < u32::MAX {
+        client.submit();
+    }
+    let replied: Bytes = Seq::new(alloc);
+    let first = ServerId { site: 2, index: 0 };
+    client.take_reply(alloc, 1, first, 1, Number(5), &replied)?;
+    assert!(rt; client.result().is_none());
+    let last = ServerId { site: 2, index: 3 };
+    client.take_reply(alloc, 1, last, 1, Number(5), &replied)?;
+    assert!(rt; client.result().is_some());
+    Ok(())
+}
+
+#[test]
 fn laws_ask_nothing(rt: HostRuntime) {
     replies_in_a_world::<Message>();
     submissions_in_a_world::<Bytes>();
