@@ -11,3 +11,4 @@ pub mod FillLaws
 pub mod LowLaws
 pub mod AnswerLaws
 pub mod ServeLaws
+pub mod FreshLaws

@@ -8,3 +8,4 @@ pub mod Carried
 pub mod LiveReplies
 pub mod Serving
 pub mod Deployed
+pub mod Fresh

@@ -9,7 +9,10 @@ ghost use Rattle.st_protocol.specs.Questions.{questions, executed_in, values_by,
 ghost use Rattle.st_protocol.specs.Duty.{course, did, ignored};
 ghost use Rattle.st_state.specs.Placed.{Fits};
 ghost use Rattle.st_live.specs.LiveView.{place_here};
-ghost use Rattle.st_server.specs.Bounds.{IsLowStep};
+ghost use Rattle.st_state.specs.HereView.{seat_of};
+ghost use Rattle.st_live.specs.Service.{list_serve};
+ghost use Rattle.st_server.specs.Bounds.{IsSeat, IsLowStep};
+ghost use Rattle.st_server.specs.Fresh.{IsFresh};
 ghost use Rattle.st_server.specs.Sealing.{pen_by};
 ghost use Rattle.st_server.specs.Serving as serving;
 ghost use Rattle.st_server.specs.Serving.{seat_by, StandsBy, Stands, IsServing, knows_sender, plan_by_message, Leads};
@@ -18,8 +21,9 @@ use crate::draft::Draft;
 use crate::parts::answer_to;
 use st_fields::{Copied, Seq, Shared, WordsError};
 use st_live::Live;
-use st_message::{Change, Changes, Message, Outcome, Plan, Reason, Refused, Sealing, Step};
+use st_message::{Change, Changes, Here, Message, Outcome, Plan, Reason, Refused, Sealing, Step};
 use st_seal::Sealer;
+use st_state::{Clients, Hand, Own, Pending, Slots};
 use st_tables::Table;
 use st_words::{Statement, Value};
 use std::alloc::Global;
@@ -42,16 +46,43 @@ pub struct Server {
 }
 
 impl Server {
-    /// What is to be done where a message reaches the server: its duty. Nothing changes yet.
+    /// A server that recorded and heard nothing: one that stands at `here`, in view and local view 0 with
+    /// nothing executed and no leaf used, in a deployment of so many clients.
+    pub fn new(alloc: Global, here: Here, clients: u8) -> Result<Server, WordsError>
+        requires fresh { IsFresh here }
+        requires seat { IsSeat (seat_of clients list_serve here) }
+        ensures stands { IfOk result (λ server. Stands server [] []) }
+        ensures seat { IfOk result (λ server. seat_by server ≡ seat_of clients list_serve here) }
+        ensures memory { IsOkUnless result words.OutOfMemory }
+    {
+        let live = Live {
+            here,
+            ran: 0,
+            clients: Clients::new(alloc)?,
+            pending: Pending::new(alloc, clients)?,
+            slots: Slots::new(alloc)?,
+            hand: Hand::new(alloc)?,
+            own: Own::new(alloc)?,
+        };
+        Ok(Server {
+            live,
+            values: Seq::new(alloc),
+            replies: Table::new(alloc, 0)?,
+        })
+    }
+
+    /// What is to be done where a message reaches the server: its duty. Nothing changes yet. `id` is the
+    /// deployment's, over which statements are sealed.
     pub fn plan<S: Sealer>(
         &self,
         alloc: Global,
         sealer: &mut S,
+        id: u64,
         message: &Message,
     ) -> Result<Planned, WordsError>
         requires serving { IsServing self.now }
         requires capacity { (S.pen sealer.old).capacity ≡ self.now.live.here.capacity }
-        ensures plan { IfOk result (λ planned. (q : Answers) → StandsBy self.now q → planned.plan ≡ plan_by_message (seat_by self.now) (pen_by (S.pen sealer.old) self.now.live.here.id) q message.now) }
+        ensures plan { IfOk result (λ planned. (q : Answers) → StandsBy self.now q → planned.plan ≡ plan_by_message (seat_by self.now) (pen_by (S.pen sealer.old) id) q message.now) }
         ensures next { IfOk result (λ planned. (records : List (List Change)) (heard : List Heard) → Stands self.now records heard → Leads planned.next self.now (questions (seat_by self.now) (records ++ planned.plan.changes ∷ []) (heard ++ planned.plan.heard))) }
         ensures pen { S.pen sealer.new ≡ S.pen sealer.old }
         ensures memory { IsOkUnless result words.OutOfMemory }
@@ -61,7 +92,7 @@ impl Server {
         }
         match answer_to(alloc, &self.live, &self.replies, message) {
             Ok(step) => {
-                let planned = self.carried_out(alloc, sealer, &step)?;
+                let planned = self.carried_out(alloc, sealer, id, &step)?;
                 Ok(planned)
             }
             Err(Refused::Ignored(reason)) => Ok(ignoring(alloc, reason)),
@@ -89,19 +120,19 @@ impl Server {
         &self,
         alloc: Global,
         sealer: &mut S,
+        id: u64,
         step: &Step,
     ) -> Result<Planned, WordsError>
         requires serving { IsServing self.now }
         requires capacity { (S.pen sealer.old).capacity ≡ self.now.live.here.capacity }
         requires fits { Fits (place_here self.now.live) step.now }
         requires low { IsLowStep step.now }
-        ensures plan { IfOk result (λ planned. (q : Answers) → StandsBy self.now q → planned.plan ≡ did (course (pen_by (S.pen sealer.old) self.now.live.here.id) q step.now)) }
+        ensures plan { IfOk result (λ planned. (q : Answers) → StandsBy self.now q → planned.plan ≡ did (course (pen_by (S.pen sealer.old) id) q step.now)) }
         ensures next { IfOk result (λ planned. (records : List (List Change)) (heard : List Heard) → Stands self.now records heard → Leads planned.next self.now (questions (seat_by self.now) (records ++ planned.plan.changes ∷ []) (heard ++ planned.plan.heard))) }
         ensures pen { S.pen sealer.new ≡ S.pen sealer.old }
         ensures memory { IsOkUnless result words.OutOfMemory }
     {
         let live = self.live.copy(alloc)?;
-        let id = self.live.here.id;
         let mut draft = Draft::begin(alloc, live);
         draft.carry(alloc, sealer, id, &self.replies, step)?;
         draft.fill_up(alloc, sealer, id, &self.replies)?;

@@ -24,7 +24,7 @@ pub returns-clause-plan : goal.returns-clause-plan
 returns-clause-plan g c =
     λ q stands.
     let made = entry c.args.self.now.replies in
-    let id = c.args.self.now.live.here.id in
+    let id = c.args.id in
     let pen = pen_by (g.S.Sealer.pen c.args.sealer.now) id in
     let step = c.args.step.now in
     let first = c.begin-draft.ensures.draws made q (subst (λ (l : Live). IsLive l q) (sym c.in_ok-live.ensures.equal) stands.live) stands.replies in
@@ -35,7 +35,7 @@ pub returns-clause-next : goal.returns-clause-next
 returns-clause-next g c =
     λ records heard stands.
     let made = entry c.args.self.now.replies in
-    let id = c.args.self.now.live.here.id in
+    let id = c.args.id in
     let pen = pen_by (g.S.Sealer.pen c.args.sealer.now) id in
     let step = c.args.step.now in
     let q = questions (seat_by c.args.self.now) records heard in

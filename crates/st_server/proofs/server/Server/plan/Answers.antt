@@ -17,7 +17,7 @@ pub returns-then-not-knows_sender-clause-plan : goal.returns-then-not-knows_send
 returns-then-not-knows_sender-clause-plan g c =
     λ q stands.
     c.ignoring.ensures.plan
-    ∙ unknown_plan (seat_by c.args.self.now) (pen_by (g.S.Sealer.pen c.args.sealer.now) c.args.self.now.live.here.id) q c.args.message.now (sym c.knows_sender.ensures ∙ c.if-not-knows_sender.true)
+    ∙ unknown_plan (seat_by c.args.self.now) (pen_by (g.S.Sealer.pen c.args.sealer.now) c.args.id) q c.args.message.now (sym c.knows_sender.ensures ∙ c.if-not-knows_sender.true)
 
 pub returns-then-not-knows_sender-clause-next : goal.returns-then-not-knows_sender-clause-next
 returns-then-not-knows_sender-clause-next g c = λ records heard stands. ignored_leads c.args.self.now records heard _ _ _ c.ignoring.ensures.plan c.ignoring.ensures.next stands
@@ -31,14 +31,14 @@ pub returns-in_ok-planned-in-Ok-clause-plan : goal.returns-in_ok-planned-in-Ok-c
 returns-in_ok-planned-in-Ok-clause-plan g c =
     λ q stands.
     c.in_ok-planned-in-Ok.ensures.plan q stands
-    ∙ known_plan (seat_by c.args.self.now) (pen_by (g.S.Sealer.pen c.args.sealer.now) c.args.self.now.live.here.id) q c.args.message.now (Steps c.in-Ok.step)
+    ∙ known_plan (seat_by c.args.self.now) (pen_by (g.S.Sealer.pen c.args.sealer.now) c.args.id) q c.args.message.now (Steps c.in-Ok.step)
     (sym c.knows_sender.ensures ∙ c.if-not-knows_sender.false) (c.in-Ok.ensures.answers q stands.live stands.replies)
 
 pub returns-in-Err-Ignored-clause-plan : goal.returns-in-Err-Ignored-clause-plan
 returns-in-Err-Ignored-clause-plan g c =
     λ q stands.
     c.ignoring-in-Err-Ignored.ensures.plan
-    ∙ known_plan (seat_by c.args.self.now) (pen_by (g.S.Sealer.pen c.args.sealer.now) c.args.self.now.live.here.id) q c.args.message.now (Refused c.in-Err-Ignored.reason)
+    ∙ known_plan (seat_by c.args.self.now) (pen_by (g.S.Sealer.pen c.args.sealer.now) c.args.id) q c.args.message.now (Refused c.in-Err-Ignored.reason)
     (sym c.knows_sender.ensures ∙ c.if-not-knows_sender.false)
     (subst (λ (r : refusals.Refused). part.Answers (Err r) (of_message q c.args.message.now)) c.in-Err-Ignored.field-0-is (c.in-Err-Ignored.ensures.answers q stands.live stands.replies))
 

@@ -1,0 +1,4 @@
+-- Lemmas.
+pub mod RowLaws
+pub mod KeepLaws
+pub mod ReplyLaws
