@@ -17,6 +17,7 @@ use Rattle.st_live.specs.declared.live.Live.{Live}
 use Rattle.st_live.specs.LiveView.{place_here, past_of, asked, IsLive}
 use Rattle.st_live.specs.Service.{list_serve, kept_count}
 use Rattle.st_live.proofs.SealedLaws.{sealed_nothing}
+use Rattle.st_live.proofs.CutLaws.{asked_cut}
 use Rattle.st_tables.specs.Entries.{entry}
 use Rattle.st_server.specs.declared.server.Server.{Server}
 use Rattle.st_server.specs.Bounds.{IsSeat, IsBound}
@@ -24,9 +25,9 @@ use Rattle.st_server.specs.Fresh.{IsFresh}
 use Rattle.st_server.specs.Serving.{seat_by, StandsBy, Stands}
 
 -- what the empty lists answer
-questions_of_nothing : (seat : Seat) → questions seat [] [] ≡ nothing seat
-unfolding grown joined cuts nothing
-questions_of_nothing seat = questions_grow seat [] []
+questions_of_nothing : (seat : Seat) → cuts (nothing seat) ≡ nothing seat → questions seat [] [] ≡ nothing seat
+unfolding grown joined
+questions_of_nothing seat cut = questions_grow seat [] [] ∙ cut
 
 place_fresh : (live : Live) → IsFresh live.here → place_here live ≡ fresh_here (seat_of live.pending.clients list_serve live.here)
 place_fresh live fresh =
@@ -59,15 +60,20 @@ pub stands_fresh : (server : Server) → IsFresh server.live.here → IsSeat (se
     → server.live.ran ≡ 0 → server.values ≡ [] → ((n : ℕ) → entry server.replies n ≡ None) → Stands server [] []
 unfolding nothing executed_values executed_in joined
 stands_fresh server fresh known slots last place pending hand own ran values replies =
-    record { answers = subst (StandsBy server) (sym (questions_of_nothing (seat_by server))) by_nothing; values = values }
+    record { answers = subst (StandsBy server) (sym (questions_of_nothing (seat_by server) cut)) by_nothing; values = values }
   where
+    is : asked (past_of (nothing (seat_by server))) server.live ≡ nothing (seat_by server)
+    is = asked_nothing server.live (seat_by server) refl fresh slots last place pending hand own
+
+    cut : cuts (nothing (seat_by server)) ≡ nothing (seat_by server)
+    cut = ap cuts (sym is) ∙ (asked_cut (past_of (nothing (seat_by server))) server.live ∙ is)
+
     by_nothing : StandsBy server (nothing (seat_by server))
-    unfolding nothing
     by_nothing =
         record {
           live =
               record {
-                is = asked_nothing server.live (seat_by server) refl fresh slots last place pending hand own;
+                is = is;
                 entries = fresh.executed;
                 ran = ran;
                 sealed = sealed_nothing (seat_by server);
