@@ -1,3 +1,5 @@
 -- Lemmas.
 pub mod SendLaws
 pub mod ServeLaws
+pub mod CustomerLaws
+pub mod DeliverLaws

@@ -1,6 +1,8 @@
 //! A whole deployment in memory: its server, its clients, what was sent, and what isn't delivered yet.
 #![tactic(auto)]
 
+mod customer;
+mod deliver;
 mod error;
 mod pair;
 mod send;
