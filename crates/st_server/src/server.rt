@@ -184,11 +184,7 @@ fn ignoring(alloc: Global, reason: Reason) -> Planned
 
 // Puts the values that the changes execute last.
 #[tactic(auto, unfolding(st_protocol::specs::Questions::executed_in))]
-fn note_values(
-    alloc: Global,
-    values: &mut Seq<Value>,
-    changes: &Changes,
-) -> Result<(), WordsError>
+fn note_values(alloc: Global, values: &mut Seq<Value>, changes: &Changes) -> Result<(), WordsError>
     ensures ok { OnOk result (values.new ≡ values.old ++ executed_in changes.now) }
     ensures memory { IsOkUnless result words.OutOfMemory }
 {
