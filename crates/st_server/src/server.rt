@@ -147,7 +147,8 @@ impl Server {
         })
     }
 
-    /// Takes the changes of a plan that this server made, and the short state that it leads to.
+    /// Takes the changes of a plan that this server made, and the short state that it leads to. Where it
+    /// is refused memory the server is of no use any more.
     pub fn settle(
         &mut self,
         alloc: Global,
