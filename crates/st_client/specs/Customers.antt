@@ -3,7 +3,7 @@ use Rattle.std.specs.Prelude.{◌+◌, true, Option, Some, None}
 use Rattle.st_protocol.specs.World.{Answered, Customer}
 use Rattle.st_client.specs.declared.replies.Answer.{Answer}
 use Rattle.st_client.specs.declared.client.Client.{Client}
-use Rattle.st_client.specs.Rows.{row_in, answer_in}
+use Rattle.st_client.specs.Rows.{entry_in}
 
 -- what a server answered, if it did
 abbrev pub answered_of : Option Answer → Option Answered
@@ -16,7 +16,7 @@ customer_of client =
     record {
       time = client.time;
       waits = client.waits;
-      replies = λ s i. answered_of (answer_in (row_in client.replies s) i);
+      replies = λ s i. answered_of (entry_in (entry_in client.replies s) i);
       result = answered_of client.result;
     }
 

@@ -6,15 +6,10 @@ use Rattle.st_protocol.specs.Words.{Bytes}
 use Rattle.st_protocol.specs.Keeping.{given}
 use Rattle.st_client.specs.declared.replies.Answer.{Answer}
 
--- the entry of a key, where there is a row
-abbrev pub answer_in : {A : Type 0} → Option (List (Option A)) → ℕ → Option A
-answer_in None k = None
-answer_in (Some xs) k = entry xs k
-
--- the row of a site, where there are rows
-abbrev pub row_in : {A : Type 0} → Option (List (Option (List (Option A)))) → ℕ → Option (List (Option A))
-row_in None s = None
-row_in (Some rows) s = entry rows s
+-- the entry of a key, where there is a table
+abbrev pub entry_in : {A : Type 0} → Option (List (Option A)) → ℕ → Option A
+entry_in None k = None
+entry_in (Some xs) k = entry xs k
 
 -- an answer of this number and result
 abbrev pub answer_by : Number → Bytes → Answer

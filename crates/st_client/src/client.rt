@@ -2,11 +2,11 @@ ghost use Rattle.std.specs.Prelude.{◌≡◌, ℕ, ◌-◌, ◌^◌, ◌<◌, I
 ghost use Rattle.std.specs.Option.{option_copied};
 ghost use Rattle.st_fields.specs.declared.error.WordsError.TheVariants as words;
 ghost use Rattle.st_protocol.specs.World.{fresh_customer};
-ghost use Rattle.st_client.specs.Rows.{row_in};
+ghost use Rattle.st_client.specs.Rows.{entry_in};
 ghost use Rattle.st_client.specs.Customers.{customer_of, answered_of, asks_next};
 ghost use Rattle.st_client.specs.Replying.{awaits, awaited, reply_outcome, kept_or_answered, reply_customer};
 
-use crate::replies::{Answer, Row, agreeing, answer_of, row_of, with_answer, with_row};
+use crate::replies::{Answer, Row, agreeing, entry_of, make_answer, with_entry};
 use st_fields::{Bytes, Copied, WordsError};
 use st_message::{Outcome, Reason};
 use st_tables::Table;
@@ -84,7 +84,7 @@ impl Client {
             let last = self.awaited();
             return Ok(Outcome::Ignored(Reason::OldTime { last }));
         }
-        if answer_of(self.row(server.site), server.index).is_some() {
+        if entry_of(self.row(server.site), server.index).is_some() {
             return Ok(Outcome::Ignored(Reason::Seen));
         }
         self.keep_reply(alloc, f, server, number, replied)?;
@@ -122,9 +122,9 @@ impl Client {
 
     // The kept answers of a site, if there are any.
     fn row(&self, site: u8) -> Option<&Row>
-        ensures { option_copied result ≡ row_in self.now.replies site }
+        ensures { option_copied result ≡ entry_in self.now.replies site }
     {
-        row_of(self.replies.as_ref(), site)
+        entry_of(self.replies.as_ref(), site)
     }
 
     // Keeps a server's answer and, with f+1 equal ones of its site, has it as the result.
@@ -141,14 +141,15 @@ impl Client {
         ensures err { OnErr result (self.new ≡ self.old) }
         ensures memory { IsOkUnless result words.OutOfMemory }
     {
-        let row = with_answer(alloc, self.row(server.site), server.index, number, replied)?;
+        let kept = make_answer(alloc, number, replied)?;
+        let row = with_entry(alloc, self.row(server.site), server.index, kept)?;
         if agreeing(3 * f as usize + 1, &row, number, replied) > f as usize {
-            let result = replied.copy(alloc)?;
+            let result = make_answer(alloc, number, replied)?;
             self.waits = false;
             self.replies = None;
-            self.result = Some(Answer { number, result });
+            self.result = Some(result);
         } else {
-            let rows = with_row(alloc, self.replies.as_ref(), server.site, row)?;
+            let rows = with_entry(alloc, self.replies.as_ref(), server.site, row)?;
             self.replies = Some(rows);
         }
         Ok(())

@@ -3,7 +3,7 @@ ghost use Rattle.std.specs.Option.{option_copied};
 ghost use Rattle.st_fields.specs.declared.error.WordsError.TheVariants as words;
 ghost use Rattle.st_protocol.specs.Step.{count_below};
 ghost use Rattle.st_tables.specs.Entries.{entry};
-ghost use Rattle.st_client.specs.Rows.{row_in, answer_in, answer_by, says};
+ghost use Rattle.st_client.specs.Rows.{entry_in, answer_by, says};
 
 use st_fields::{Bytes, Copied, Same, Shared, WordsError};
 use st_tables::Table;
@@ -29,59 +29,40 @@ impl Copied for Answer {
 /// The answers of a site's servers, by index.
 pub type Row = Table<Answer>;
 
-/// The row of a site, if a server of it answered.
-pub fn row_of(rows: Option<&Table<Row>>, site: u8) -> Option<&Row>
-    ensures { option_copied result ≡ row_in (option_copied rows.entry) site }
+/// The entry of a key, where there is a table.
+pub fn entry_of<T>(table: Option<&Table<T>>, key: u8) -> Option<&T>
+    ensures { option_copied result ≡ entry_in (option_copied table.entry) key }
 {
-    match rows {
-        Some(rows) => rows.get(site as usize),
+    match table {
+        Some(table) => table.get(key as usize),
         None => None,
     }
 }
 
-/// The answer of a server of a row, if it answered.
-pub fn answer_of(row: Option<&Row>, index: u8) -> Option<&Answer>
-    ensures { option_copied result ≡ answer_in (option_copied row.entry) index }
-{
-    match row {
-        Some(row) => row.get(index as usize),
-        None => None,
-    }
-}
-
-/// The row once this answer of a server is kept too.
+/// The table once this item is its key's.
 #[tactic(auto, using(crate::proofs::RowLaws::entry_set))]
-pub fn with_answer(
+pub fn with_entry<T: Drop>(
     alloc: Global,
-    row: Option<&Row>,
-    index: u8,
-    number: Number,
-    replied: &Bytes,
-) -> Result<Row, WordsError>
-    ensures kept { IfOk result (λ new. (i : ℕ) → entry new i ≡ cond (nat_eq index i) (Some (answer_by number replied.now)) (answer_in (option_copied row.entry) i)) }
+    table: Option<&Table<T>>,
+    key: u8,
+    item: T,
+) -> Result<Table<T>, WordsError>
+    ensures kept { IfOk result (λ new. (k : ℕ) → entry new k ≡ cond (nat_eq key k) (Some item) (entry_in (option_copied table.entry) k)) }
     ensures memory { IsOkUnless result words.OutOfMemory }
 {
-    let answer = share_answer(alloc, number, replied)?;
-    let mut new = copy_or_new(alloc, row)?;
-    new.put(index as usize, Some(answer))?;
+    let item = Shared::new(alloc, item)?;
+    let mut new = copy_or_new(alloc, table)?;
+    new.put(key as usize, Some(item))?;
     Ok(new)
 }
 
-/// The rows once this one is the site's.
-#[tactic(auto, using(crate::proofs::RowLaws::entry_set))]
-pub fn with_row(
-    alloc: Global,
-    rows: Option<&Table<Row>>,
-    site: u8,
-    row: Row,
-) -> Result<Table<Row>, WordsError>
-    ensures kept { IfOk result (λ new. (s : ℕ) → entry new s ≡ cond (nat_eq site s) (Some row) (row_in (option_copied rows.entry) s)) }
+/// An answer of this number and result.
+pub fn make_answer(alloc: Global, number: Number, replied: &Bytes) -> Result<Answer, WordsError>
+    ensures equal { IfOk result (λ answer. answer ≡ answer_by number replied.now) }
     ensures memory { IsOkUnless result words.OutOfMemory }
 {
-    let row = Shared::new(alloc, row)?;
-    let mut new = copy_or_new(alloc, rows)?;
-    new.put(site as usize, Some(row))?;
-    Ok(new)
+    let result = replied.copy(alloc)?;
+    Ok(Answer { number, result })
 }
 
 /// How many of the first servers of a row gave this answer.
@@ -112,7 +93,7 @@ fn gives(row: &Row, key: usize, number: Number, replied: &Bytes) -> bool
 
 // An equal table, or one without an entry where there is none.
 fn copy_or_new<T: Drop>(alloc: Global, table: Option<&Table<T>>) -> Result<Table<T>, WordsError>
-    ensures equal { IfOk result (λ new. (k : ℕ) → entry new k ≡ answer_in (option_copied table.entry) k) }
+    ensures equal { IfOk result (λ new. (k : ℕ) → entry new k ≡ entry_in (option_copied table.entry) k) }
     ensures memory { IsOkUnless result words.OutOfMemory }
 {
     match table {
@@ -125,17 +106,4 @@ fn copy_or_new<T: Drop>(alloc: Global, table: Option<&Table<T>>) -> Result<Table
             Ok(new)
         }
     }
-}
-
-fn share_answer(
-    alloc: Global,
-    number: Number,
-    replied: &Bytes,
-) -> Result<Shared<Answer>, WordsError>
-    ensures equal { IfOk result (λ answer. answer ≡ answer_by number replied.now) }
-    ensures memory { IsOkUnless result words.OutOfMemory }
-{
-    let result = replied.copy(alloc)?;
-    let answer = Shared::new(alloc, Answer { number, result })?;
-    Ok(answer)
 }

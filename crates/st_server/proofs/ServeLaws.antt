@@ -75,7 +75,7 @@ leads_is made draft pen server records heard step draws drawn =
     record { live = live; bound = bound_same draft.live drawn.way.now _ drawn.draws.now live drawn.bound }
 
 -- answers look at the changes that the records join to
-same_joined : (seat : Seat) (rs ts : List (List Change)) (hs : List Heard) → joined rs ≡ joined ts → questions seat rs hs ≡ questions seat ts hs
+pub same_joined : (seat : Seat) (rs ts : List (List Change)) (hs : List Heard) → joined rs ≡ joined ts → questions seat rs hs ≡ questions seat ts hs
 unfolding questions
 same_joined seat rs ts hs e = ap (λ (xs : List Change). answers_by (here_of seat xs) seat xs hs) e
 
@@ -170,3 +170,8 @@ pub ignored_leads : (server : Server) (records : List (List Change)) (heard : Li
 ignored_leads server records heard plan next reason is none stands =
     subst (λ (p : Plan). Leads next server (questions (seat_by server) (records ++ p.changes ∷ []) (heard ++ p.heard))) (sym is)
     (subst (λ (n : Option Live). Leads n server (questions (seat_by server) (records ++ [] ∷ []) (heard ++ []))) (sym none) (leads_still server records heard stands))
+
+-- a short state that comes next is of the same seat
+pub seat_stays : (old : Server) (live : Live) (records : List (List Change)) (heard : List Heard) (next : Option Live) → Leads next old (questions (seat_by old) records heard) → live ≡ given next old.live (λ l. l) → (place_here live).seat ≡ seat_by old
+seat_stays old live records heard next leads is =
+    ap (λ (h : Here). h.seat) (here_is live (questions (seat_by old) records heard) (subst (λ (l : Live). IsLive l (questions (seat_by old) records heard)) (sym is) leads.live)) ∙ questions_seat (seat_by old) records heard

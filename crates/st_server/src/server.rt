@@ -156,6 +156,7 @@ impl Server {
         next: Option<Live>,
     ) -> Result<(), WordsError>
         ensures stands { OnOk result ((records : List (List Change)) (heard others : List Heard) → Stands self.old records heard → Leads next self.old (questions (seat_by self.old) (records ++ changes.now ∷ []) (heard ++ others)) → Stands self.new (records ++ changes.now ∷ []) (heard ++ others)) }
+        ensures seat { OnOk result ((records : List (List Change)) (heard : List Heard) → Leads next self.old (questions (seat_by self.old) records heard) → seat_by self.new ≡ seat_by self.old) }
         ensures memory { IsOkUnless result words.OutOfMemory }
     {
         note_values(alloc, &mut self.values, changes)?;

@@ -1,0 +1,3 @@
+-- Lemmas.
+pub mod SendLaws
+pub mod ServeLaws

@@ -1,0 +1,5 @@
+-- The definitions that contracts cite.
+pub mod Waiting
+pub mod Standing
+pub mod Handing
+pub mod Serving

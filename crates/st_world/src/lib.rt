@@ -1,0 +1,12 @@
+//! A whole deployment in memory: its server, its clients, what was sent, and what isn't delivered yet.
+#![tactic(auto)]
+
+mod error;
+mod pair;
+mod send;
+mod serve;
+mod world;
+
+pub use error::WorldError;
+pub use pair::Pair;
+pub use world::World;
