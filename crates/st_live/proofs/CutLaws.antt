@@ -1,5 +1,5 @@
 -- What a server's short state answers is cut already: nothing more is dropped of it.
-use Rattle.std.proofs.Common.{◌≡◌, ℕ, None, refl}
+use Rattle.std.proofs.Common.{◌≡◌, None}
 use Rattle.st_protocol.specs.State.{open_term}
 use Rattle.st_protocol.specs.Growth.{cuts}
 use Rattle.st_state.specs.ClientsView.{last_of}

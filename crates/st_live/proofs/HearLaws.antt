@@ -1,5 +1,5 @@
 -- What is heard by the short state is heard by its answers.
-use Rattle.std.proofs.Common.{◌≡◌, ◌∙◌, ap, sym, ℕ, true, false, Option, Some, None, refl}
+use Rattle.std.proofs.Common.{◌≡◌, ◌∙◌, ap, sym, ℕ, None, refl}
 use Rattle.st_words.specs.declared.ids.SiteId.{SiteId}
 use Rattle.st_words.specs.declared.ids.View.{View}
 use Rattle.st_words.specs.declared.ids.LocalView.{LocalView}
@@ -10,9 +10,7 @@ use Rattle.st_words.specs.declared.statement.Statement.{Statement}
 use Rattle.st_words.specs.declared.statement.Statement.TheVariants.{Prepare, Proposal, Accept}
 use Rattle.st_seal.specs.declared.quorum.Signed.{Signed}
 use Rattle.st_message.specs.declared.change.Heard.{Heard}
-use Rattle.st_message.specs.declared.message.Message.TheVariants as messages
 use Rattle.st_protocol.specs.Words.{Bytes, Quorum}
-use Rattle.st_protocol.specs.State as state
 use Rattle.st_protocol.specs.State.{Term, open_term}
 use Rattle.st_protocol.specs.Growth.{hears, takes, cuts, slots_takes, slots_cuts, pending_takes, pending_cuts, votes_takes, votes_cuts, reports_takes, reports_cuts, hand_takes, hand_cuts, own_takes, own_cuts}
 use Rattle.st_state.specs.declared.slots.Slots.{Slots}

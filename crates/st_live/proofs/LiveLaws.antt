@@ -1,8 +1,7 @@
 -- The short state goes on standing for the answers, change by change.
-use Rattle.std.proofs.Common.{◌≡◌, ◌∙◌, ap, sym, subst, ℕ, ◌+◌, ◌<◌, ◌≤◌, ◌++◌, length, List, refl, arith, cond, Bool, true, false}
+use Rattle.std.proofs.Common.{◌≡◌, ◌∙◌, ap, sym, subst, ℕ, ◌+◌, ◌<◌, ◌++◌, length, List, arith, cond, false}
 use Rattle.std.proofs.lemmas.List.{length-append}
 use Rattle.st_words.specs.declared.ids.Number.{Number}
-use Rattle.st_words.specs.declared.value.Value.{Value}
 use Rattle.st_words.specs.declared.statement.Statement.{Statement}
 use Rattle.st_message.specs.declared.change.Change.{Change}
 use Rattle.st_message.specs.declared.change.Change.TheVariants.{Made, Prepared, Accepted, Executed}
@@ -23,7 +22,7 @@ use Rattle.st_state.specs.HandView.{hand_of}
 use Rattle.st_state.specs.OwnView.{own_of}
 use Rattle.st_live.specs.declared.live.Live.{Live}
 use Rattle.st_live.specs.Service.{kept_count}
-use Rattle.st_live.specs.LiveView.{Past, past_of, place_here, asked, IsSealed, IsLive}
+use Rattle.st_live.specs.LiveView.{past_of, place_here, asked, IsLive}
 use Rattle.st_live.proofs.NoteLaws.{with_made, with_slots, with_executed, live_made, live_prepared, live_accepted, live_executed}
 use Rattle.st_live.proofs.SealedLaws.{sealed_made, sealed_prepared, sealed_accepted, sealed_executed, sealed_heard}
 

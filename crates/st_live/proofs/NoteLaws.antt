@@ -1,5 +1,5 @@
 -- A change of the short state is the change of its answers.
-use Rattle.std.proofs.Common.{◌≡◌, ◌∙◌, ap, sym, subst, ℕ, ◌+◌, ◌<◌, ◌≤◌, nat_eq, nat_lt, ◌&&◌, length, arith, Bool, true, false, cond, Option, Some, None, refl}
+use Rattle.std.proofs.Common.{◌≡◌, ◌∙◌, ap, sym, subst, ℕ, ◌+◌, ◌<◌, ◌≤◌, nat_eq, nat_lt, ◌&&◌, length, arith, Bool, true, false, cond, Some, None, refl}
 use Rattle.std.proofs.lemmas.Bool.{ltb-true}
 use Rattle.st_words.specs.declared.ids.Number.{Number}
 use Rattle.st_words.specs.declared.value.Value.{Value}
@@ -10,7 +10,6 @@ use Rattle.st_message.specs.declared.change.Change.TheVariants.{Made, Prepared, 
 use Rattle.st_message.specs.declared.message.Proof.{Proof}
 use Rattle.st_protocol.specs.Words.{Quorum}
 use Rattle.st_protocol.specs.Keeping.{open_if, or_else}
-use Rattle.st_protocol.specs.State as state
 use Rattle.st_protocol.specs.State.{Here, Sealing, Term, Answers, at_vc, at_report, at_union, open_vc, open_term}
 use Rattle.st_protocol.specs.Questions.{runs, runs_for, last_after}
 use Rattle.st_protocol.specs.Growth.{after, notes, cuts, slots_notes, slots_cuts, hand_cuts, own_cuts, pending_cuts}

@@ -1,5 +1,5 @@
 -- Each statement that was made has a leaf below the next one.
-use Rattle.std.proofs.Common.{◌≡◌, ap, sym, ℕ, ◌+◌, ◌<◌, ◌⊎◌, inl, inr, Bool, true, false, cond, Option, Some, None, refl, arith}
+use Rattle.std.proofs.Common.{◌≡◌, ap, sym, ℕ, ◌+◌, ◌<◌, ◌⊎◌, inl, inr, Bool, true, false, cond, Option, Some, None, arith}
 use Rattle.st_words.specs.declared.ids.Number.{Number}
 use Rattle.st_words.specs.declared.statement.Statement.{Statement}
 use Rattle.st_words.specs.declared.statement.Statement.TheVariants.{Prepare, Proposal, Accept, LocalVc, GlobalVc, LocalReport, GlobalReport, LocalUnion, GlobalUnion, Reply, ClientUpdate}
@@ -10,7 +10,6 @@ use Rattle.st_protocol.specs.Words.{Quorum}
 use Rattle.st_protocol.specs.Keeping.{open_if, or_else}
 use Rattle.st_protocol.specs.State.{AtPrepare, AtProposal, AtAccept, OfLocal, OfGlobal, Sealing, Answers, Seat}
 use Rattle.st_protocol.specs.Growth.{after, notes, cuts, hears, takes, nothing}
-use Rattle.st_protocol.specs.Duty.{sealing_of}
 use Rattle.st_live.specs.LiveView.{IsSealed}
 
 -- what is found was there, or has the new leaf

@@ -1,5 +1,5 @@
 -- The short state goes on standing for the answers, whatever is heard of what its tables take.
-use Rattle.std.proofs.Common.{◌≡◌, ℕ, ◌≤◌, ◌&&◌, nat_eq, IsTrue, refl}
+use Rattle.std.proofs.Common.{◌≡◌, nat_eq, IsTrue, refl}
 use Rattle.std.proofs.lemmas.Bool.{and_parts, eqb-true}
 use Rattle.st_words.specs.declared.ids.SiteId.{SiteId}
 use Rattle.st_words.specs.declared.ids.View.{View}
@@ -15,12 +15,12 @@ use Rattle.st_protocol.specs.State.{Here, Answers}
 use Rattle.st_protocol.specs.Growth.{hears, slots_takes, slots_cuts, own_takes, own_cuts}
 use Rattle.st_state.specs.declared.slots.Slots.{Slots}
 use Rattle.st_state.specs.declared.own.Own.{Own}
-use Rattle.st_state.specs.Placed.{is_at, is_within, is_kept_kind, is_own_kind}
+use Rattle.st_state.specs.Placed.{is_within, is_own_kind}
 use Rattle.st_state.specs.SlotsView.{slots_of, heard_share}
 use Rattle.st_state.specs.OwnView.{own_of, own_certificate}
 use Rattle.st_live.specs.declared.live.Live.{Live}
 use Rattle.st_live.specs.LiveView.{past_of, place_here, IsLive}
-use Rattle.st_live.proofs.HearLaws.{with_groups, prepare_heard, proposal_heard, accept_heard, own_proposal_heard, own_accept_heard}
+use Rattle.st_live.proofs.HearLaws.{prepare_heard, proposal_heard, accept_heard, own_proposal_heard, own_accept_heard}
 use Rattle.st_live.proofs.LiveLaws.{stands_heard}
 
 -- ---- the views of what is taken

@@ -3,7 +3,7 @@ use Rattle.std.specs.Prelude.{ℕ, ◌≡◌, ◌+◌, ◌<◌, ◌≤◌, Optio
 use Rattle.st_words.specs.declared.statement.Statement.{Statement}
 use Rattle.st_message.specs.declared.log.Entry.{Entry}
 use Rattle.st_message.specs.declared.message.Proof.{Proof}
-use Rattle.st_protocol.specs.State.{Here, Sealing, Votes, Making, Answers}
+use Rattle.st_protocol.specs.State.{Here, Sealing, Votes, Answers}
 use Rattle.st_protocol.specs.Duty.{sealing_of}
 use Rattle.st_message.specs.declared.change.Change.TheVariants.{Made}
 use Rattle.st_protocol.specs.Growth.{slots_notes}

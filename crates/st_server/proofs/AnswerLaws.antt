@@ -1,5 +1,5 @@
 -- What a part answers by the short state is what it answers by the answers.
-use Rattle.std.proofs.Common.{◌≡◌, ◌∙◌, ap, sym, subst, ℕ, Option, Some, None, List, refl}
+use Rattle.std.proofs.Common.{◌≡◌, ◌∙◌, ap, sym, ℕ, Option, Some, None}
 use Rattle.st_words.specs.declared.ids.SiteId.{SiteId}
 use Rattle.st_words.specs.declared.ids.View.{View}
 use Rattle.st_words.specs.declared.ids.LocalView.{LocalView}
@@ -7,15 +7,13 @@ use Rattle.st_words.specs.declared.ids.Number.{Number}
 use Rattle.st_words.specs.declared.value.Update.{Update}
 use Rattle.st_words.specs.declared.value.Value.{Value}
 use Rattle.st_words.specs.declared.statement.Statement.{Statement}
-use Rattle.st_words.specs.declared.statement.Statement.TheVariants.{Prepare, Proposal, Accept, LocalVc, GlobalVc, LocalReport, GlobalReport, LocalUnion, GlobalUnion, Reply, ClientUpdate}
+use Rattle.st_words.specs.declared.statement.Statement.TheVariants.{Prepare, Proposal, Accept}
 use Rattle.st_seal.specs.declared.quorum.Signed.{Signed}
 use Rattle.st_message.specs.declared.message.Message.{Message}
 use Rattle.st_message.specs.declared.message.Message.TheVariants as messages
-use Rattle.st_message.specs.declared.reason.Reason.TheVariants.{NotBuilt}
 use Rattle.st_protocol.specs.Words.{Bytes, Quorum}
 use Rattle.st_protocol.specs.Keeping.{given}
 use Rattle.st_protocol.specs.State.{Answers, Sealing}
-use Rattle.st_protocol.specs.Step.{Answer, Refused}
 use Rattle.st_protocol.specs.Forced.{forced_of}
 use Rattle.st_protocol.specs.Assigning.{on_update, on_prepare, on_proposal_share}
 use Rattle.st_protocol.specs.Ordering.{on_accept_share, on_proposal, on_accept}
@@ -26,7 +24,7 @@ use Rattle.st_state.specs.SlotsView.{slots_of}
 use Rattle.st_state.specs.HandView.{hand_of}
 use Rattle.st_state.specs.ClientsView.{last_of, place_of, pending_of}
 use Rattle.st_live.specs.declared.live.Live.{Live}
-use Rattle.st_live.specs.LiveView.{place_here, IsLive, asked, past_of}
+use Rattle.st_live.specs.LiveView.{place_here, IsLive, asked}
 use Rattle.st_assign.specs.Parts.{client_in, update_answer, assign_answer, prepare_answer, proposal_share_answer}
 use Rattle.st_order.specs.Parts.{accept_share_answer, proposal_answer, accept_answer}
 

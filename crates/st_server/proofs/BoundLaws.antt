@@ -1,5 +1,5 @@
 -- A state stays within its bounds, change by change and message by message.
-use Rattle.std.proofs.Common.{◌≡◌, ap, sym, subst, ℕ, ◌+◌, ◌<◌, ◌≤◌, ◌&&◌, ◌⊎◌, inl, inr, Bool, true, false, cond, nat_eq, nat_lt, nat_le, Option, Some, None, IsTrue, refl, arith}
+use Rattle.std.proofs.Common.{◌≡◌, sym, subst, ℕ, ◌+◌, ◌≤◌, ◌&&◌, ◌⊎◌, inl, inr, Bool, true, false, cond, nat_eq, nat_lt, nat_le, Option, Some, None, IsTrue, refl, arith}
 use Rattle.std.proofs.lemmas.Bool.{and_parts, eqb-true, leb-true}
 use Rattle.st_words.specs.declared.deployment.TheConstants.{LAST_NUMBER}
 use Rattle.st_words.specs.declared.statement.Statement.{Statement}
@@ -12,11 +12,10 @@ use Rattle.st_message.specs.declared.message.Message.TheVariants as messages
 use Rattle.st_message.specs.declared.message.Proof.{Proof}
 use Rattle.st_protocol.specs.Words.{Quorum}
 use Rattle.st_protocol.specs.Keeping.{open_if, from, greatest, or_else}
-use Rattle.st_protocol.specs.State.{Seat, Here, Answers, Word, word_view, word_height, open_number}
-use Rattle.st_protocol.specs.Questions.{if_other, word_in, proof_in, taken_height}
+use Rattle.st_protocol.specs.State.{Here, Answers, Word, word_view, word_height, open_number}
+use Rattle.st_protocol.specs.Questions.{if_other, word_in, proof_in}
 use Rattle.st_protocol.specs.Growth.{here_after, after, notes, cuts, hears, takes}
-use Rattle.st_state.specs.Placed.{is_placed}
-use Rattle.st_server.specs.Bounds.{IsSeat, IsBound, is_low, is_low_message}
+use Rattle.st_server.specs.Bounds.{IsSeat, IsBound, is_low_message}
 use Rattle.st_server.specs.Ready.{may_record}
 
 -- ---- what is found where something may be dropped was there

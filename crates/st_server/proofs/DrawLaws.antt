@@ -1,5 +1,5 @@
 -- A draft goes on being the course of its event.
-use Rattle.std.proofs.Common.{◌≡◌, ◌∙◌, ap, sym, subst, ℕ, ◌<◌, ◌≤◌, ◌&&◌, Bool, true, cond, nat_eq, Option, Some, None, List, [], ◌∷◌, ◌++◌, IsTrue, refl, arith}
+use Rattle.std.proofs.Common.{◌≡◌, ◌∙◌, ap, sym, subst, ℕ, ◌<◌, Option, Some, None, List, [], ◌∷◌, ◌++◌, IsTrue, refl, arith}
 use Rattle.std.proofs.lemmas.Bool.{and_parts}
 use Rattle.st_words.specs.declared.statement.Statement.{Statement}
 use Rattle.st_message.specs.declared.change.Change.{Change}
@@ -11,13 +11,13 @@ use Rattle.st_protocol.specs.Questions.{sealing_in}
 use Rattle.st_protocol.specs.Growth.{here_after, after, hears}
 use Rattle.st_protocol.specs.Duty.{Course, begins, records, keeps, puts, sealing_of}
 use Rattle.st_protocol.proofs.FieldLaws.{here_after_change, here_hears, making_after_change, making_hears}
-use Rattle.st_state.specs.Placed.{is_placed, is_taken}
+use Rattle.st_state.specs.Placed.{is_taken}
 use Rattle.st_live.specs.declared.live.Live.{Live}
 use Rattle.st_state.specs.SlotsView.{slots_of}
 use Rattle.st_live.specs.LiveView.{place_here, asked, IsLive, IsSealed}
 use Rattle.st_live.proofs.LiveLaws.{here_is}
 use Rattle.st_server.specs.declared.draft.Draft.{Draft}
-use Rattle.st_server.specs.Bounds.{IsBound, IsSound, is_low, is_low_message}
+use Rattle.st_server.specs.Bounds.{IsSound, is_low_message}
 use Rattle.st_server.specs.Ready.{may_record, may_keep}
 use Rattle.st_server.specs.Draw.{Draws, IsDrawn}
 use Rattle.st_server.proofs.FirstLaws.{first_of_none, first_of_more, or_else_assoc}

@@ -1,5 +1,5 @@
 -- What goes out is sealed with the leaf with which it was made.
-use Rattle.std.proofs.Common.{◌≡◌, ◌≢◌, ◌∙◌, ap, sym, subst, ℕ, ◌<◌, Option, Some, None, List, [], ◌∷◌, ◌++◌, IfSome, refl}
+use Rattle.std.proofs.Common.{◌≡◌, ◌≢◌, ◌∙◌, ap, sym, subst, ℕ, ◌<◌, Option, Some, None, [], ◌∷◌, ◌++◌, IfSome, refl}
 use Rattle.st_words.specs.declared.ids.SiteId.{SiteId}
 use Rattle.st_words.specs.declared.ids.ClientId.{ClientId}
 use Rattle.st_words.specs.declared.ids.View.{View}
@@ -19,7 +19,7 @@ use Rattle.st_protocol.specs.Keeping.{given}
 use Rattle.st_protocol.specs.State.{Here, Answers, Sealing, OfLocal, OfGlobal}
 use Rattle.st_protocol.specs.Duty.{Course, Pen, emits, puts, sealed, sealing_of, message_of}
 use Rattle.st_live.specs.declared.live.Live.{Live}
-use Rattle.st_live.specs.LiveView.{place_here, IsLive}
+use Rattle.st_live.specs.LiveView.{IsLive}
 use Rattle.st_live.proofs.LiveLaws.{here_is}
 use Rattle.st_server.specs.declared.draft.Draft.{Draft}
 use Rattle.st_server.specs.Draw.{Draws, IsDrawn}

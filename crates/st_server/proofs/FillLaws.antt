@@ -1,13 +1,12 @@
 -- The fill of a server that holds no union.
-use Rattle.std.proofs.Common.{◌≡◌, ◌∙◌, ap, sym, subst, ℕ, ◌+◌, ◌*◌, ◌^◌, ◌<◌, ◌≤◌, ◌-◌, max, min, ◌&&◌, Bool, true, false, cond, nat_eq, nat_le, not, is_some, Option, Some, None, List, [], ◌∷◌, ◌++◌, IsTrue, refl, arith, zero, suc}
+use Rattle.std.proofs.Common.{◌≡◌, ◌∙◌, ap, sym, subst, ℕ, ◌+◌, ◌*◌, ◌^◌, ◌<◌, ◌≤◌, ◌-◌, min, ◌&&◌, Bool, true, false, cond, nat_eq, nat_le, not, is_some, Option, Some, None, List, [], ◌∷◌, ◌++◌, refl, arith, zero, suc}
 use Rattle.std.proofs.lemmas.Bool.{and_parts, and_from}
 use Rattle.st_words.specs.declared.deployment.TheConstants.{WINDOW, LAST_NUMBER}
 use Rattle.st_words.specs.declared.value.Value.{Value}
 use Rattle.st_message.specs.declared.change.Change.{Change}
-use Rattle.st_message.specs.declared.step.Step.{Step}
 use Rattle.st_protocol.specs.Words.{Bytes}
 use Rattle.st_protocol.specs.Keeping.{given}
-use Rattle.st_protocol.specs.State.{Here, Answers, Pended, Sealing, Slots, Term, Held, AtPrepare}
+use Rattle.st_protocol.specs.State.{Here, Answers, Pended, Sealing, Slots, AtPrepare}
 use Rattle.st_protocol.specs.Step.{when, rep, leader}
 use Rattle.st_protocol.specs.Forced as forced
 use Rattle.st_protocol.specs.Forced.{forced_of, waits, base_of}
@@ -22,7 +21,7 @@ use Rattle.st_live.proofs.LiveLaws.{here_is}
 use Rattle.st_shares.specs.Known.{IsKnown}
 use Rattle.st_server.specs.declared.draft.Draft.{Draft}
 use Rattle.st_server.specs.Bounds.{IsBound, IsLowStep, is_low, all_low, all_low_heard}
-use Rattle.st_server.specs.Draw.{Draws, IsDrawn}
+use Rattle.st_server.specs.Draw.{IsDrawn}
 
 -- ---- what the fill makes executes nothing
 

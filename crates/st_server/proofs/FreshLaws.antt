@@ -1,26 +1,23 @@
 -- A server that did nothing yet stands for empty lists.
-use Rattle.std.proofs.Common.{◌≡◌, ◌∙◌, ap, sym, subst, ℕ, ◌+◌, ◌≤◌, Option, Some, None, List, [], refl, arith}
-use Rattle.st_message.specs.declared.here.Here.{Here as Place}
-use Rattle.st_protocol.specs.State as state
-use Rattle.st_protocol.specs.State.{Seat, Here, Answers, Pended}
+use Rattle.std.proofs.Common.{◌≡◌, ◌∙◌, ap, sym, subst, ℕ, ◌≤◌, Some, None, [], refl, arith}
+use Rattle.st_protocol.specs.State.{Seat}
 use Rattle.st_protocol.specs.Keeping.{joined}
 use Rattle.st_protocol.specs.Questions.{questions, executed_in, executed_values}
-use Rattle.st_protocol.specs.Growth.{nothing, grown, cuts, notes_all, takes_all, fresh_here}
+use Rattle.st_protocol.specs.Growth.{nothing, grown, cuts, fresh_here}
 use Rattle.st_protocol.proofs.QuestionLaws.{questions_grow}
-use Rattle.st_protocol.proofs.DropLaws.{questions_cut}
-use Rattle.st_state.specs.HereView.{here_of, seat_of}
+use Rattle.st_state.specs.HereView.{seat_of}
 use Rattle.st_state.specs.SlotsView.{slots_of, no_slots}
 use Rattle.st_state.specs.HandView.{hand_of, no_hand}
 use Rattle.st_state.specs.OwnView.{own_of, no_own}
 use Rattle.st_state.specs.ClientsView.{last_of, place_of, pending_of}
 use Rattle.st_live.specs.declared.live.Live.{Live}
-use Rattle.st_live.specs.LiveView.{place_here, past_of, asked, IsLive}
-use Rattle.st_live.specs.Service.{list_serve, kept_count}
+use Rattle.st_live.specs.LiveView.{place_here, past_of, asked}
+use Rattle.st_live.specs.Service.{list_serve}
 use Rattle.st_live.proofs.SealedLaws.{sealed_nothing}
 use Rattle.st_live.proofs.CutLaws.{asked_cut}
 use Rattle.st_tables.specs.Entries.{entry}
 use Rattle.st_server.specs.declared.server.Server.{Server}
-use Rattle.st_server.specs.Bounds.{IsSeat, IsBound}
+use Rattle.st_server.specs.Bounds.{IsSeat}
 use Rattle.st_server.specs.Fresh.{IsFresh}
 use Rattle.st_server.specs.Serving.{seat_by, StandsBy, Stands}
 

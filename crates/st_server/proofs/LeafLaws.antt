@@ -1,6 +1,6 @@
 -- What the tables take does not depend on the next leaf.
-use Rattle.std.proofs.Common.{◌≡◌, ◌∙◌, ap, sym, subst, ℕ, ◌&&◌, ◌||◌, not, Bool, true, List, [], ◌∷◌, IsTrue, refl}
-use Rattle.std.proofs.lemmas.Bool.{and_parts, and_from}
+use Rattle.std.proofs.Common.{◌≡◌, ◌∙◌, sym, ℕ, ◌&&◌, ◌||◌, not, Bool, true, List, [], ◌∷◌, IsTrue, refl}
+use Rattle.std.proofs.lemmas.Bool.{and_from}
 use Rattle.st_words.specs.declared.statement.Statement.{Statement}
 use Rattle.st_words.specs.declared.statement.Statement.TheVariants.{Prepare, Proposal, Accept, LocalVc, GlobalVc, LocalReport, GlobalReport, LocalUnion, GlobalUnion, Reply, ClientUpdate}
 use Rattle.st_seal.specs.declared.quorum.Signed.{Signed}

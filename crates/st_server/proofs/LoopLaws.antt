@@ -1,7 +1,6 @@
 -- One more of a list is carried out.
-use Rattle.std.proofs.Common.{◌≡◌, ◌∙◌, ap, sym, subst, ℕ, ◌+◌, ◌<◌, ◌≤◌, ◌&&◌, Option, List, [], ◌∷◌, ◌++◌, length, take, drop, get_or, IsTrue, refl, arith, zero, suc}
+use Rattle.std.proofs.Common.{◌≡◌, ◌∙◌, ap, sym, subst, ℕ, ◌+◌, ◌<◌, ◌≤◌, Option, List, [], ◌∷◌, ◌++◌, length, take, drop, get_or, IsTrue, refl, arith, zero, suc}
 use Rattle.std.proofs.lemmas.List.{take_more, take_all}
-use Rattle.std.specs.List.{fold}
 use Rattle.st_message.specs.declared.change.Change.{Change}
 use Rattle.st_message.specs.declared.change.Heard.{Heard}
 use Rattle.st_message.specs.declared.step.Out.{Out}
@@ -10,13 +9,12 @@ use Rattle.st_protocol.specs.Growth.{here_after}
 use Rattle.st_protocol.specs.Duty.{Course, Pen, carries_change, carries_changes, keeps, keeps_all, emits, emits_all}
 use Rattle.st_state.specs.Placed.{here_after_all}
 use Rattle.st_live.specs.LiveView.{place_here}
-use Rattle.st_live.specs.declared.live.Live.{Live}
 use Rattle.st_server.specs.declared.draft.Draft.{Draft}
 use Rattle.st_server.specs.Bounds.{IsSound}
-use Rattle.st_server.specs.Ready.{is_ready, are_ready, may_record, may_keep, IsAlike}
+use Rattle.st_server.specs.Ready.{is_ready, are_ready, IsAlike}
 use Rattle.st_server.specs.Draw.{Draws, IsDrawn}
 use Rattle.st_server.specs.Carried.{IsCarried, AreKept, AreEmitted}
-use Rattle.st_server.proofs.CarryLaws.{fold_more, after_all_more, alike_both, alike_after, alike_same, ready_first, kept_first}
+use Rattle.st_server.proofs.CarryLaws.{fold_more, after_all_more, alike_both, alike_after, alike_same, kept_first}
 
 -- ---- the element of a list at a place
 

@@ -1,5 +1,5 @@
 -- What a part answers executes, and hears of, no number above a log's last.
-use Rattle.std.proofs.Common.{◌≡◌, ◌∙◌, ap, sym, subst, ℕ, ◌+◌, ◌<◌, ◌≤◌, ◌&&◌, ◌||◌, ◌⊎◌, inl, inr, not, Bool, true, false, cond, nat_eq, nat_lt, nat_le, is_some, is_none, Option, Some, None, List, [], ◌∷◌, ◌++◌, IsTrue, refl, arith, zero, suc}
+use Rattle.std.proofs.Common.{◌≡◌, ◌∙◌, subst, ℕ, ◌+◌, ◌≤◌, Bool, true, false, cond, nat_eq, nat_lt, nat_le, is_none, Option, Some, None, List, [], ◌∷◌, ◌++◌, refl, zero, suc}
 use Rattle.std.proofs.lemmas.Bool.{and_parts, and_from, le-leb, ltb-false}
 use Rattle.st_words.specs.declared.deployment.TheConstants.{WINDOW, LAST_NUMBER}
 use Rattle.st_words.specs.declared.value.Update.{Update}
@@ -8,7 +8,7 @@ use Rattle.st_words.specs.declared.statement.Statement.{Statement}
 use Rattle.st_words.specs.declared.statement.Statement.TheVariants.{Prepare, Proposal, Accept, LocalVc, GlobalVc, LocalReport, GlobalReport, LocalUnion, GlobalUnion, Reply, ClientUpdate}
 use Rattle.st_seal.specs.declared.quorum.Signed.{Signed}
 use Rattle.st_message.specs.declared.change.Change.{Change}
-use Rattle.st_message.specs.declared.change.Change.TheVariants.{Made, Prepared, Accepted, Executed}
+use Rattle.st_message.specs.declared.change.Change.TheVariants.{Prepared, Accepted, Executed}
 use Rattle.st_message.specs.declared.change.Heard.{Heard}
 use Rattle.st_message.specs.declared.event.Scope.{Scope}
 use Rattle.st_message.specs.declared.event.Scope.TheVariants as scopes
@@ -25,12 +25,11 @@ use Rattle.st_protocol.specs.Words.{Bytes, Quorum, a_prepare, a_proposal, an_acc
 use Rattle.st_protocol.specs.Keeping.{given, or_else}
 use Rattle.st_protocol.specs.State.{Here, Slots, Hand, Share, Sealing, Word, Answers, AtPrepare, AtProposal, AtAccept}
 use Rattle.st_protocol.specs.Growth.{hears, takes, cuts, hand_takes, hand_cuts}
-use Rattle.st_protocol.specs.Step.{Answer, Refused, Steps, then, making, recording, keeping, completing, putting, idle, when, decides, certifies, completes, completed, first_below, majority, count_below, to_rep, to_site}
+use Rattle.st_protocol.specs.Step.{Refused, Steps, then, making, recording, keeping, completing, putting, idle, when, decides, certifies, completes, completed, first_below, to_rep, to_site}
 use Rattle.st_protocol.specs.Forced.{forced_of}
-use Rattle.st_protocol.specs.Assigning.{update_reasons, update_step, assign_reasons, assign_step, assigns, keeps_assigned, keeps_prepare, completes_prepare, prepares, prepare_reasons, proposal_share_reasons, proposal_share_step}
+use Rattle.st_protocol.specs.Assigning.{update_reasons, update_step, assign_reasons, assign_step, assigns, keeps_assigned, keeps_prepare, completes_prepare, prepares, prepare_reasons, proposal_share_reasons}
 use Rattle.st_protocol.specs.Ordering.{accept_share_reasons, proposal_reasons, proposal_step, accept_reasons, accept_step, executions, in_hand, words_proof}
-use Rattle.st_protocol.specs.Part.{first_reason}
-use Rattle.st_protocol.specs.Duty.{of_message, of_kind, of_share, of_certificate}
+use Rattle.st_protocol.specs.Duty.{of_message}
 use Rattle.st_protocol.proofs.PartLaws.{NoneTrue}
 use Rattle.st_server.specs.Bounds.{IsBound, IsLowStep, is_low, is_low_message, all_low, all_low_heard}
 use Rattle.st_server.proofs.BoundLaws.{bound_hears}

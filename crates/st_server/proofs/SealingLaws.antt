@@ -1,5 +1,5 @@
 -- What passes the test of ranges keeps them.
-use Rattle.std.proofs.Common.{◌≡◌, ℕ, ◌≤◌, ◌&&◌, Bool, true, false, nat_le, length, List, IsTrue}
+use Rattle.std.proofs.Common.{◌≡◌, ℕ, ◌≤◌, ◌&&◌, true, false, nat_le, length}
 use Rattle.std.proofs.lemmas.Bool.{and_parts, leb-true}
 use Rattle.st_words.specs.declared.value.Update.{Update}
 use Rattle.st_words.specs.declared.value.Value.{Value}

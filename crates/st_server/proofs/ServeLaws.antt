@@ -22,13 +22,13 @@ use Rattle.st_protocol.specs.Duty.{Course, Pen, Clean, Faulty, begins, carries, 
 use Rattle.st_protocol.proofs.GatherLaws.{firsts, gathered-append, joined-push}
 use Rattle.st_protocol.proofs.CourseLaws.{Follows, course_follows}
 use Rattle.st_live.specs.declared.live.Live.{Live}
-use Rattle.st_live.specs.LiveView.{place_here, IsLive, asked, past_of}
+use Rattle.st_live.specs.LiveView.{IsLive, asked}
 use Rattle.st_live.proofs.LiveLaws.{here_is}
 use Rattle.st_server.specs.declared.draft.Draft.{Draft}
 use Rattle.st_server.specs.declared.server.Server.{Server}
 use Rattle.st_server.specs.Bounds.{IsSeat, IsBound}
 use Rattle.st_server.specs.Draw.{Draws, IsDrawn}
-use Rattle.st_server.specs.Serving.{seat_by, StandsBy, Stands, Leads, knows_sender, plan_by_message}
+use Rattle.st_server.specs.Serving.{seat_by, Stands, Leads, knows_sender, plan_by_message}
 use Rattle.st_server.proofs.FirstLaws.{first_of_none, first_of_more, or_else_assoc}
 use Rattle.st_server.proofs.LoopLaws.{taken_next}
 

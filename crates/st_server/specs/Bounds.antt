@@ -1,5 +1,5 @@
 -- What holds of every state that a server comes to: its deployment's numbers, and the last number of a log.
-use Rattle.std.specs.Prelude.{ℕ, ◌≡◌, ◌+◌, ◌*◌, ◌^◌, ◌<◌, ◌≤◌, nat_le, Bool, true, ◌&&◌, Option, Some, List, [], ◌∷◌, IsTrue}
+use Rattle.std.specs.Prelude.{ℕ, ◌≡◌, ◌*◌, ◌^◌, ◌<◌, ◌≤◌, nat_le, Bool, true, ◌&&◌, Some, List, [], ◌∷◌, IsTrue}
 use Rattle.st_words.specs.declared.deployment.TheConstants.{LAST_NUMBER}
 use Rattle.st_words.specs.declared.statement.Statement.TheVariants.{Accept}
 use Rattle.st_message.specs.declared.change.Change.{Change}

@@ -1,5 +1,5 @@
 -- What a server stands for: the answers of its records and of what it heard, and the values that it executed.
-use Rattle.std.specs.Prelude.{ℕ, ◌≡◌, ◌+◌, ◌*◌, Bool, true, cond, nat_lt, Option, List, [], ◌∷◌, ◌++◌}
+use Rattle.std.specs.Prelude.{ℕ, ◌≡◌, ◌+◌, ◌*◌, Bool, true, cond, nat_lt, Option, List}
 use Rattle.st_words.specs.declared.statement.Statement.TheVariants.{Accept}
 use Rattle.st_message.specs.declared.change.Change.{Change}
 use Rattle.st_message.specs.declared.change.Heard.{Heard}

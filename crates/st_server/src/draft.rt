@@ -25,7 +25,8 @@ use crate::sealing::seal_statement;
 use st_fields::{Bytes, Copied, Seq, WordsError};
 use st_live::Live;
 use st_message::{
-    Change, Changes, Form, Heard, HeardList, Message, Out, Output, Outputs, Outs, Proof, ReportBody, Scope, Sealing, Step,
+    Change, Changes, Form, Heard, HeardList, Message, Out, Output, Outputs, Outs, Proof,
+    ReportBody, Scope, Sealing, Step,
 };
 use st_seal::{Sealer, Signed};
 use st_shares::{Slot, made_accept, made_prepare, made_proposal};
@@ -219,12 +220,7 @@ impl Draft {
     fn accept_leaf(&self, view: View, number: Number) -> Option<u32>
         ensures { (q : Answers) → IsLive self.now.live q → result ≡ given (q.slots.made (AtAccept view.0 number.0)) None (λ m. Some m.leaf) }
     {
-        made_leaf(made_accept(
-            &self.live.here,
-            &self.live.slots,
-            view,
-            number,
-        ))
+        made_leaf(made_accept(&self.live.here, &self.live.slots, view, number))
     }
 
     // The leaf of the Reply of a number: one that was made before the event, else in it.
@@ -289,12 +285,14 @@ fn message_of(form: Form, statement: Statement, signed: Signed) -> Message
     match form {
         Form::Share => Message::Share { statement, signed },
         Form::Assign { client_seal } => assign_of(client_seal, statement, signed),
-        Form::Report { quorums, base } => Message::Report { report: ReportBody {
-            statement,
-            seal: signed.seal,
-            quorums,
-            base,
-        } },
+        Form::Report { quorums, base } => Message::Report {
+            report: ReportBody {
+                statement,
+                seal: signed.seal,
+                quorums,
+                base,
+            },
+        },
         Form::Reply => Message::Reply { statement, signed },
     }
 }

@@ -6,6 +6,8 @@ mod draft;
 mod parts;
 mod sealing;
 mod server;
+#[cfg(test)]
+mod tests;
 
 pub use draft::Draft;
 pub use parts::answer_to;

@@ -147,7 +147,8 @@ impl Server {
         })
     }
 
-    /// Takes the changes of a plan that this server made, and the short state that it leads to.
+    /// Takes the changes of a plan that this server made, and the short state that it leads to. Where it
+    /// is refused memory the server is of no use any more.
     pub fn settle(
         &mut self,
         alloc: Global,
@@ -185,11 +186,7 @@ fn ignoring(alloc: Global, reason: Reason) -> Planned
 
 // Puts the values that the changes execute last.
 #[tactic(auto, unfolding(st_protocol::specs::Questions::executed_in))]
-fn note_values(
-    alloc: Global,
-    values: &mut Seq<Value>,
-    changes: &Changes,
-) -> Result<(), WordsError>
+fn note_values(alloc: Global, values: &mut Seq<Value>, changes: &Changes) -> Result<(), WordsError>
     ensures ok { OnOk result (values.new ≡ values.old ++ executed_in changes.now) }
     ensures memory { IsOkUnless result words.OutOfMemory }
 {

@@ -1,8 +1,5 @@
 -- No union is held.
-use Rattle.std.proofs.Common.{◌≡◌, ◌∙◌, sym, subst}
-use Rattle.st_message.specs.declared.step.Step.{Step}
-use Rattle.st_protocol.specs.Assigning.{fill}
-use Rattle.st_protocol.specs.Forced.{forced_of}
+use Rattle.std.proofs.Common.{◌∙◌, sym, subst}
 use Rattle.st_state.specs.ForcedView.{forced_by}
 use Rattle.st_state.specs.SlotsView.{slots_of}
 use Rattle.st_state.specs.ClientsView.{last_of, pending_of}

@@ -1,10 +1,8 @@
 -- The Reply that the definitions name.
-use Rattle.std.proofs.Common.{◌≡◌, ◌∙◌, ◌+◌, ap, sym, ℕ}
-use Rattle.st_protocol.specs.State.{Here, Answers}
+use Rattle.std.proofs.Common.{◌∙◌, ◌+◌, ap}
+use Rattle.st_protocol.specs.State.{Here}
 use Rattle.st_protocol.specs.Words.{a_reply}
-use Rattle.st_live.specs.LiveView.{place_here}
 use Rattle.st_live.proofs.LiveLaws.{here_is}
-use Rattle.st_server.specs.Replying as replying
 use Rattle.st_server.proofs.CarryLaws.{serve_is}
 use Rattle.st_server.proofs.carry.next_reply.Goals as goal
 

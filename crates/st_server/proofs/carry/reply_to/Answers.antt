@@ -1,5 +1,5 @@
 -- The Reply is the one that the definitions name.
-use Rattle.std.proofs.Common.{◌≡◌, ◌∙◌, sym}
+use Rattle.std.proofs.Common.{◌∙◌, sym}
 use Rattle.st_server.proofs.CarryLaws.{replied_is, reply_none, reply_some}
 use Rattle.st_server.proofs.carry.reply_to.Goals as goal
 

@@ -1,7 +1,7 @@
 -- One change more.
-use Rattle.std.proofs.Common.{◌≡◌, ◌∙◌, ap, sym, take, Option, ℕ}
+use Rattle.std.proofs.Common.{◌∙◌, ap, sym, take, Option, ℕ}
 use Rattle.st_protocol.specs.Keeping.{or_else}
-use Rattle.st_server.specs.Replying.{leaf_in, reply_leaf_in}
+use Rattle.st_server.specs.Replying.{reply_leaf_in}
 use Rattle.st_server.proofs.FirstLaws.{reply_leaf_more, take_item}
 use Rattle.st_server.proofs.draft.reply_among.Goals as goal
 

@@ -1,5 +1,5 @@
 -- No union is held.
-use Rattle.std.proofs.Common.{◌≡◌, ◌∙◌, ap, sym, subst}
+use Rattle.std.proofs.Common.{subst}
 use Rattle.st_protocol.specs.Part as part
 use Rattle.st_live.specs.Service.{list_serve}
 use Rattle.st_server.proofs.AnswerLaws.{assign_is}

@@ -1,5 +1,5 @@
 -- The client's last time, and the Reply at the number where its last update ran.
-use Rattle.std.proofs.Common.{◌≡◌, ◌∙◌, ap, sym, subst, Option, None, Some}
+use Rattle.std.proofs.Common.{◌∙◌, ap, subst, Option, None, Some}
 use Rattle.st_tables.specs.Entries.{entry}
 use Rattle.st_protocol.specs.State.{Sealing}
 use Rattle.st_protocol.specs.Keeping.{given}

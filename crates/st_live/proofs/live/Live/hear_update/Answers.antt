@@ -1,5 +1,5 @@
 -- The update is kept in a copy of the pending ones, which takes their place.
-use Rattle.std.proofs.Common.{◌≡◌, ◌∙◌, ap, sym, refl}
+use Rattle.std.proofs.Common.{◌∙◌, ap, sym, refl}
 use Rattle.st_protocol.specs.Growth.{pending_takes, pending_cuts}
 use Rattle.st_state.specs.declared.pending.Pending.{Pending}
 use Rattle.st_state.specs.ClientsView.{last_of, pending_of, heard_update}

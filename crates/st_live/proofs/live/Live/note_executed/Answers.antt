@@ -1,5 +1,5 @@
 -- All groups move up.
-use Rattle.std.proofs.Common.{◌≡◌, ◌∙◌, ◌+◌, sym, ap, cond, arith}
+use Rattle.std.proofs.Common.{◌≡◌, ◌∙◌, ◌+◌, ap, cond}
 use Rattle.std.proofs.lemmas.Bool.{eqb-true}
 use Rattle.st_protocol.specs.Questions.{runs_for}
 use Rattle.st_state.specs.ClientsView.{last_of, place_of}

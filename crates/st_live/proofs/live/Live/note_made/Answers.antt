@@ -1,5 +1,4 @@
 -- The statement is noted in the slots, and its leaf is used.
-use Rattle.std.proofs.Common.{◌≡◌}
 use Rattle.st_live.specs.LiveView.{place_here}
 use Rattle.st_live.specs.Service.{list_serve}
 use Rattle.st_live.proofs.PlacedLaws.{placed_next, placed_vc, placed_report, placed_union}

@@ -1,5 +1,5 @@
 -- The changes, then what is kept, then what goes out.
-use Rattle.std.proofs.Common.{◌≡◌, subst}
+use Rattle.std.proofs.Common.{subst}
 use Rattle.st_seal.specs.Pen.{Pen}
 use Rattle.st_tables.specs.Entries.{entry}
 use Rattle.st_protocol.specs.Duty.{Course, carries, carries_changes, keeps_all, emits_all}

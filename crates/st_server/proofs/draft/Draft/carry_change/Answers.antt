@@ -1,11 +1,8 @@
 -- An execution is followed by its Reply, every other change by nothing.
-use Rattle.std.proofs.Common.{◌≡◌, ◌∙◌, ap, sym, subst, IsTrue, List, ◌∷◌, refl}
+use Rattle.std.proofs.Common.{subst, IsTrue, ◌∷◌, refl}
 use Rattle.st_message.specs.declared.change.Change.{Change}
-use Rattle.st_message.specs.declared.change.Change.TheVariants.{Executed}
 use Rattle.st_tables.specs.Entries.{entry}
-use Rattle.st_protocol.specs.State.{Here}
 use Rattle.st_protocol.specs.Growth.{here_after}
-use Rattle.st_protocol.specs.Duty.{records, carries_change}
 use Rattle.st_live.specs.LiveView.{place_here}
 use Rattle.st_server.specs.Draw.{Draws}
 use Rattle.st_server.specs.Ready.{is_ready}

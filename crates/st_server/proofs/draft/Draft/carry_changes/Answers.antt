@@ -1,5 +1,5 @@
 -- One change more is carried out.
-use Rattle.std.proofs.Common.{◌≡◌, ◌∙◌, ap, sym, subst, ◌+◌, ◌∷◌, ◌++◌, [], List, take, drop, length, arith}
+use Rattle.std.proofs.Common.{◌∙◌, ap, sym, subst, ◌+◌, ◌∷◌, ◌++◌, [], List, take, drop}
 use Rattle.st_seal.specs.Pen.{Pen}
 use Rattle.st_message.specs.declared.change.Change.{Change}
 use Rattle.st_tables.specs.Entries.{entry}

@@ -1,5 +1,5 @@
 -- One output more goes out.
-use Rattle.std.proofs.Common.{◌≡◌, ◌∙◌, ap, sym, subst, ◌∷◌, ◌++◌, [], List, take, length, arith}
+use Rattle.std.proofs.Common.{◌∙◌, ap, sym, subst, ◌∷◌, ◌++◌, [], List, take}
 use Rattle.st_seal.specs.Pen.{Pen}
 use Rattle.st_message.specs.declared.step.Out.{Out}
 use Rattle.st_protocol.specs.Duty.{Course, emits}

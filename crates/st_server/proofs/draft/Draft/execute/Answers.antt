@@ -1,23 +1,17 @@
 -- The Reply is what follows from the execution.
-use Rattle.std.proofs.Common.{◌≡◌, ◌∙◌, ap, sym, subst, ◌<◌, IsTrue, IfSome, None, Some, Option}
-use Rattle.st_words.specs.declared.ids.ClientId.{ClientId}
+use Rattle.std.proofs.Common.{◌∙◌, sym, subst, IsTrue, None, Some}
 use Rattle.st_words.specs.declared.ids.Number.{Number}
-use Rattle.st_words.specs.declared.statement.Statement.{Statement}
 use Rattle.st_message.specs.declared.message.Proof.{Proof}
 use Rattle.st_message.specs.declared.change.Change.TheVariants.{Made, Executed}
-use Rattle.st_message.specs.declared.step.Form.TheVariants as forms
 use Rattle.st_tables.specs.Entries.{entry}
-use Rattle.st_protocol.specs.State.{Here, Seat}
+use Rattle.st_protocol.specs.State.{Here}
 use Rattle.st_protocol.specs.Growth.{here_after}
-use Rattle.st_protocol.specs.Words.{to_client_at}
-use Rattle.st_protocol.specs.Keeping.{given}
-use Rattle.st_protocol.specs.Duty.{Course, records, makes, carries_change}
+use Rattle.st_protocol.specs.Duty.{records}
 use Rattle.st_live.specs.LiveView.{place_here}
-use Rattle.st_live.proofs.LiveLaws.{here_is}
 use Rattle.st_server.specs.Draw.{Draws}
 use Rattle.st_server.specs.Ready.{may_record}
 use Rattle.st_server.specs.Sealing.{pen_by}
-use Rattle.st_server.proofs.CarryLaws.{carried_execution, sites_known, executed_known, leaf_stays, placed_of}
+use Rattle.st_server.proofs.CarryLaws.{carried_execution, sites_known, leaf_stays, placed_of}
 use Rattle.st_server.proofs.draft.Draft.execute.Goals as goal
 
 pub reply_to-requires-clause-sites : goal.reply_to-requires-clause-sites

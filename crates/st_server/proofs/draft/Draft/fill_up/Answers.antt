@@ -1,5 +1,5 @@
 -- The step is the fill of what the state answers by now.
-use Rattle.std.proofs.Common.{◌≡◌, subst}
+use Rattle.std.proofs.Common.{subst}
 use Rattle.st_message.specs.declared.step.Step.{Step}
 use Rattle.st_tables.specs.Entries.{entry}
 use Rattle.st_protocol.specs.Duty.{carries, fills_up}

@@ -1,5 +1,5 @@
 -- One message more is kept.
-use Rattle.std.proofs.Common.{◌≡◌, ◌∙◌, ap, sym, subst, ◌+◌, ◌≤◌, ◌∷◌, ◌++◌, [], List, take, drop, length, arith}
+use Rattle.std.proofs.Common.{◌∙◌, ap, sym, subst, ◌+◌, ◌∷◌, ◌++◌, [], List, take, drop, arith}
 use Rattle.st_message.specs.declared.change.Heard.{Heard}
 use Rattle.st_protocol.specs.Duty.{keeps_all}
 use Rattle.st_server.specs.Draw.{Draws}

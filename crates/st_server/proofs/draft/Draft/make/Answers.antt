@@ -1,11 +1,9 @@
 -- The statement is recorded with the next leaf, and goes out with it.
-use Rattle.std.proofs.Common.{◌≡◌, ◌∙◌, ap, sym, subst, refl}
+use Rattle.std.proofs.Common.{subst, refl}
 use Rattle.st_message.specs.declared.change.Change.TheVariants.{Made}
-use Rattle.st_message.specs.declared.step.Out.TheVariants.{Make}
 use Rattle.st_words.specs.declared.statement.Statement.{Statement}
-use Rattle.st_message.specs.declared.change.Change.{Change}
 use Rattle.st_tables.specs.Entries.{entry}
-use Rattle.st_protocol.specs.Duty.{Course, records}
+use Rattle.st_protocol.specs.Duty.{records}
 use Rattle.st_server.specs.Draw.{Draws}
 use Rattle.st_server.specs.Sealing.{pen_by}
 use Rattle.st_server.proofs.CarryLaws.{makes_is}

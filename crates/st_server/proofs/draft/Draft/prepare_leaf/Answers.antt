@@ -1,5 +1,5 @@
 -- The slots are those of the answers.
-use Rattle.std.proofs.Common.{◌≡◌, ◌∙◌, ap, Option, None, Some}
+use Rattle.std.proofs.Common.{◌∙◌, ap, Option, None, Some}
 use Rattle.st_protocol.specs.Keeping.{given}
 use Rattle.st_protocol.specs.State.{Slots, Sealing, AtPrepare}
 use Rattle.st_live.specs.Service.{list_serve}

@@ -1,7 +1,6 @@
 -- The short state notes the change, and the change stands last.
-use Rattle.std.proofs.Common.{ℕ, Option, refl}
-use Rattle.st_protocol.specs.State.{Sealing}
-use Rattle.st_protocol.specs.Duty.{Course, records}
+use Rattle.std.proofs.Common.{refl}
+use Rattle.st_protocol.specs.Duty.{Course}
 use Rattle.st_server.specs.Draw.{Draws}
 use Rattle.st_server.proofs.DrawLaws.{here_noted, draws_record, drawn_record}
 use Rattle.st_server.proofs.draft.Draft.record.Goals as goal

@@ -1,8 +1,7 @@
 -- The message of a statement has the seal with its own leaf.
-use Rattle.std.proofs.Common.{◌≡◌, ◌∙◌, ap, sym}
+use Rattle.std.proofs.Common.{◌∙◌, ap, sym}
 use Rattle.st_seal.specs.declared.quorum.Signed.{Signed}
 use Rattle.st_message.specs.declared.message.Message.{Message}
-use Rattle.st_message.specs.declared.event.Output.{Output}
 use Rattle.st_tables.specs.Entries.{entry}
 use Rattle.st_protocol.specs.Duty.{message_of, sealed}
 use Rattle.st_server.specs.Sealing.{pen_by}
@@ -13,7 +12,7 @@ pub signed-requires : goal.signed-requires
 signed-requires g c =
     let drawn = c.requires.drawn in
     record {
-      leaf = leaf_below (entry c.args.replies.now) c.args.self.now drawn.way c.in-Make.statement c.leaf_of-leaf.result _ drawn.draws (c.leaf_of-leaf.ensures.leaf drawn.way drawn.draws) c.requires.capacity
+      leaf = leaf_below (entry c.args.replies.now) c.args.self.now drawn.way c.in-Make.statement c.leaf_of-leaf.result _ drawn.draws (c.leaf_of-leaf.ensures.leaf drawn.way drawn.draws) c.requires.capacity;
     }
 
 pub returns-in_ok-signed-in-Make-clause-output : goal.returns-in_ok-signed-in-Make-clause-output

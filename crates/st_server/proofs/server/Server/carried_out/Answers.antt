@@ -1,5 +1,5 @@
 -- The draft's course is the step's, and then the fill's.
-use Rattle.std.proofs.Common.{◌≡◌, ◌∙◌, ap, sym, subst, refl}
+use Rattle.std.proofs.Common.{sym, subst, refl}
 use Rattle.st_seal.specs.Pen.{Pen}
 use Rattle.st_tables.specs.Entries.{entry}
 use Rattle.st_protocol.specs.Questions.{questions}

@@ -1,6 +1,5 @@
 -- All groups are empty.
-use Rattle.std.proofs.Common.{◌≡◌, ◌∙◌, ap, sym, subst, ℕ, refl}
-use Rattle.st_protocol.specs.State.{Seat}
+use Rattle.std.proofs.Common.{sym, subst, ℕ, refl}
 use Rattle.st_state.specs.HereView.{seat_of}
 use Rattle.st_live.specs.Service.{list_serve}
 use Rattle.st_server.specs.Bounds.{IsSeat}

@@ -1,14 +1,11 @@
 -- The plan is the part's answer, carried out.
-use Rattle.std.proofs.Common.{◌≡◌, ◌∙◌, ap, sym, subst, Option, None, Err, List, [], ◌∷◌, ◌++◌}
-use Rattle.st_message.specs.declared.event.Plan.{Plan}
-use Rattle.st_protocol.specs.Questions.{questions}
+use Rattle.std.proofs.Common.{◌∙◌, sym, subst, Err}
 use Rattle.st_message.specs.declared.step.Refused as refusals
 use Rattle.st_protocol.specs.Part as part
 use Rattle.st_protocol.specs.Duty.{of_message}
 use Rattle.st_protocol.specs.Step.{Refused, Steps}
-use Rattle.st_live.specs.declared.live.Live.{Live}
 use Rattle.st_server.specs.Sealing.{pen_by}
-use Rattle.st_server.specs.Serving.{seat_by, Leads}
+use Rattle.st_server.specs.Serving.{seat_by}
 use Rattle.st_server.proofs.LowLaws.{low_answer}
 use Rattle.st_server.proofs.ServeLaws.{unknown_plan, known_plan, ignored_leads}
 use Rattle.st_server.proofs.server.Server.plan.Goals as goal

@@ -1,5 +1,5 @@
 -- The server stands for the longer lists.
-use Rattle.std.proofs.Common.{◌≡◌, ◌∙◌, sym, ap, Option, refl}
+use Rattle.std.proofs.Common.{sym, ap, Option}
 use Rattle.st_protocol.specs.Keeping.{given}
 use Rattle.st_live.specs.declared.live.Live.{Live}
 use Rattle.st_server.proofs.ServeLaws.{settled, seat_stays}
