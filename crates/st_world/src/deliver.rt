@@ -17,12 +17,7 @@ use std::alloc::Global;
 
 impl World {
     /// Delivers a message. A server that the deployment doesn't have takes nothing.
-    pub fn deliver(
-        &mut self,
-        alloc: Global,
-        to: Dest,
-        wire: &Message,
-    ) -> Result<Done, WorldError>
+    pub fn deliver(&mut self, alloc: Global, to: Dest, wire: &Message) -> Result<Done, WorldError>
         requires { IsStanding self.old }
         ensures delivered { OnOk result ((d : Deployment) (m : model.World Message) → IsWorld self.old d m → IsWorld self.new d (delivers (world_deployment d) m to wire.now).world) }
         ensures done { IfOk result (λ done. (d : Deployment) (m : model.World Message) → IsWorld self.old d m → done ≡ (delivers (world_deployment d) m to wire.now).done) }
