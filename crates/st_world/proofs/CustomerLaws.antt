@@ -1,5 +1,5 @@
 -- A client is changed.
-use Rattle.std.proofs.Common.{◌≡◌, ◌≢◌, ◌∙◌, ap, sym, subst, ℕ, ◌&&◌, Bool, true, false, cond, nat_eq, Option, Some, None, List, refl, arith}
+use Rattle.std.proofs.Common.{◌≡◌, ◌≢◌, ◌∙◌, ap, sym, ℕ, Bool, true, false, cond, nat_eq, Option, Some, List, refl}
 use Rattle.std.proofs.lemmas.Bool.{eqb-true, eqb-false}
 use Rattle.st_words.specs.declared.deployment.Deployment.{Deployment}
 use Rattle.st_words.specs.declared.ids.SiteId.{SiteId}
@@ -8,14 +8,14 @@ use Rattle.st_words.specs.declared.ids.Number.{Number}
 use Rattle.st_words.specs.declared.statement.Statement.{Statement}
 use Rattle.st_words.specs.declared.statement.Statement.TheVariants.{Prepare, Proposal, Accept, LocalVc, GlobalVc, LocalReport, GlobalReport, LocalUnion, GlobalUnion, Reply, ClientUpdate}
 use Rattle.st_seal.specs.declared.quorum.Signed.{Signed}
-use Rattle.st_message.specs.declared.event.Outcome.TheVariants.{Did, Ignored}
+use Rattle.st_message.specs.declared.event.Outcome.TheVariants.{Ignored}
 use Rattle.st_message.specs.declared.message.Message.{Message}
 use Rattle.st_message.specs.declared.message.Message.TheVariants as messages
 use Rattle.st_message.specs.declared.reason.Reason.TheVariants.{Unknown, NotMine}
 use Rattle.st_schedule.specs.declared.done.Done.TheVariants as dones
 use Rattle.st_tables.specs.Entries.{entry, Sets}
 use Rattle.st_protocol.specs.Words.{Bytes}
-use Rattle.st_protocol.specs.Duty.{Reading, Clean, Faulty}
+use Rattle.st_protocol.specs.Duty.{Clean, Faulty}
 use Rattle.st_protocol.specs.World as model
 use Rattle.st_protocol.specs.World.{Customer, Answered, Stepped, stepped, with_customer, client_takes, read_known, first_bad, on_checked_reply}
 use Rattle.st_flows.proofs.PlainKept.{plain_with_customer}

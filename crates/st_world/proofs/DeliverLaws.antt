@@ -1,10 +1,9 @@
 -- A delivery, by its destination.
-use Rattle.std.proofs.Common.{◌≡◌, ◌∙◌, ap, sym, ℕ, ◌+◌, ◌*◌, ◌<◌, ◌&&◌, ◌||◌, not, nat_lt, nat_eq, Bool, true, false, cond, List, [], refl, arith, zero, suc}
+use Rattle.std.proofs.Common.{◌≡◌, ◌∙◌, ap, sym, ℕ, ◌+◌, ◌*◌, ◌&&◌, ◌||◌, not, nat_lt, nat_eq, Bool, true, false, refl, arith, zero, suc}
 use Rattle.std.proofs.lemmas.Bool.{and_parts, eqb-true, ltb-true}
 use Rattle.st_words.specs.declared.deployment.Deployment.{Deployment}
 use Rattle.st_words.specs.declared.ids.ServerId.{ServerId}
 use Rattle.st_message.specs.declared.message.Message.{Message}
-use Rattle.st_schedule.specs.declared.line.Dest.{Dest}
 use Rattle.st_schedule.specs.declared.line.Dest.TheVariants as dests
 use Rattle.st_schedule.specs.declared.done.Done.TheVariants as dones
 use Rattle.st_protocol.specs.Duty.{Deliver}

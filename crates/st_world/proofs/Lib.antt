@@ -3,3 +3,4 @@ pub mod SendLaws
 pub mod ServeLaws
 pub mod CustomerLaws
 pub mod DeliverLaws
+pub mod NewLaws

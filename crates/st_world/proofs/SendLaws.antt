@@ -1,11 +1,10 @@
 -- A message more.
-use Rattle.std.proofs.Common.{◌≡◌, ◌∙◌, ap, sym, subst, ℕ, ◌+◌, ◌*◌, ◌<◌, ◌≤◌, ◌&&◌, Bool, true, false, cond, Option, Some, None, List, [], ◌∷◌, ◌++◌, length, take, drop, get_or, map, refl, arith, zero, suc}
+use Rattle.std.proofs.Common.{◌≡◌, ◌∙◌, ap, sym, subst, ℕ, ◌+◌, ◌*◌, ◌<◌, ◌≤◌, Option, Some, None, List, [], ◌∷◌, ◌++◌, length, take, drop, get_or, map, refl, arith, zero, suc}
 use Rattle.std.specs.List.{fold}
 use Rattle.std.proofs.lemmas.List.{length-append, take-append-drop}
 use Rattle.st_server.proofs.LoopLaws.{taken_next, dropped_next}
 use Rattle.st_world.specs.Handing.{IsHanded}
 use Rattle.st_words.specs.declared.deployment.Deployment.{Deployment}
-use Rattle.st_words.specs.declared.ids.Who.{Who}
 use Rattle.st_words.specs.declared.statement.Statement.{Statement}
 use Rattle.st_message.specs.declared.message.Message.{Message}
 use Rattle.st_message.specs.declared.event.Scope.{Scope}
@@ -14,22 +13,20 @@ use Rattle.st_message.specs.declared.event.Output.{Output}
 use Rattle.st_schedule.specs.declared.limits.TheConstants.{MOST_MESSAGES}
 use Rattle.st_schedule.specs.declared.line.Dest.{Dest}
 use Rattle.st_schedule.specs.declared.line.Dest.TheVariants as dests
-use Rattle.st_protocol.specs.Words.{Bytes, a_server, server_at}
+use Rattle.st_protocol.specs.Words.{a_server, server_at}
 use Rattle.st_protocol.specs.Keeping.{given}
 use Rattle.st_protocol.specs.Step.{all_below}
 use Rattle.st_protocol.specs.World as model
 use Rattle.st_protocol.specs.World.{Fault, TooMany, Node, Customer, sends_to, send_fault, hands, hands_one, hands_out, notes_seal, handed, dests_of, site_dests, pairs_to, seat_of}
-use Rattle.st_protocol.specs.Plain.{ArePlain}
 use Rattle.st_flows.proofs.SendLaws.{sends_to_goes_on, sends_to_too_many}
 use Rattle.st_flows.proofs.EndLaws.{hands_out_ended}
 use Rattle.st_flows.proofs.PlainKept.{plain_sends_to, plain_hands}
 use Rattle.st_config.specs.Taken.{IsTaken}
-use Rattle.st_server.specs.Serving.{Stands, seat_by}
 use Rattle.st_server.specs.Deployed.{world_deployment}
 use Rattle.st_world.specs.declared.world.World.{World}
 use Rattle.st_world.specs.declared.pair.Pair.{Pair}
-use Rattle.st_world.specs.Waiting.{pair_of, waiting_of, customer_in}
-use Rattle.st_world.specs.Standing.{IsSet, IsWorld, HasTooMany}
+use Rattle.st_world.specs.Waiting.{pair_of, waiting_of}
+use Rattle.st_world.specs.Standing.{IsWorld, HasTooMany}
 
 -- ---- destinations
 

@@ -1,8 +1,6 @@
 -- A delivery to the server.
-use Rattle.std.proofs.Common.{◌≡◌, ◌∙◌, ap, sym, subst, ℕ, ◌+◌, ◌*◌, ◌<◌, ◌&&◌, ◌||◌, not, nat_lt, Bool, true, false, cond, Option, Some, None, List, [], ◌∷◌, ◌++◌, refl}
+use Rattle.std.proofs.Common.{◌≡◌, ◌∙◌, ap, sym, subst, ℕ, ◌+◌, ◌*◌, ◌&&◌, ◌||◌, not, nat_lt, Bool, true, false, cond, List, [], ◌∷◌, ◌++◌, refl}
 use Rattle.st_words.specs.declared.deployment.Deployment.{Deployment}
-use Rattle.st_words.specs.declared.ids.ServerId.{ServerId}
-use Rattle.st_words.specs.declared.statement.Statement.{Statement}
 use Rattle.st_message.specs.declared.change.Change.{Change}
 use Rattle.st_message.specs.declared.change.Heard.{Heard}
 use Rattle.st_message.specs.declared.event.Plan.{Plan}
@@ -13,17 +11,16 @@ use Rattle.st_seal.specs.KeyedSealers.{pen_of}
 use Rattle.st_message.specs.declared.reason.Reason.TheVariants.{Unknown}
 use Rattle.st_seal.specs.Pen as seal
 use Rattle.st_seal.specs.Scheme.{scheme_of}
-use Rattle.st_seal.specs.Keyed.{keyed_pen, sealed_by}
-use Rattle.st_protocol.specs.Words.{Bytes, server_at}
-use Rattle.st_protocol.specs.Keeping.{given, joined}
+use Rattle.st_seal.specs.Keyed.{keyed_pen}
+use Rattle.st_protocol.specs.Words.{server_at}
+use Rattle.st_protocol.specs.Keeping.{joined}
 use Rattle.st_protocol.specs.State.{Seat, Answers}
 use Rattle.st_protocol.specs.Questions.{questions, executed_in, executed_values}
-use Rattle.st_protocol.specs.Duty.{Deliver, Reading, Clean, Faulty, Pen, plan_of, plan_by, of_reading}
+use Rattle.st_protocol.specs.Duty.{Deliver, Reading, Clean, Faulty, plan_of, plan_by, of_reading}
 use Rattle.st_protocol.specs.World as model
 use Rattle.st_protocol.specs.World.{Node, capacity_of, is_nil, is_listed, first_bad, reads, with_seals, seat_of, plan_at, pen_at, settled, with_node, serves, stepped, hands_out}
-use Rattle.st_protocol.specs.Plain.{ArePlain}
 use Rattle.st_flows.proofs.PlainKept.{plain_settled, plain_at, plain_with_node}
-use Rattle.st_flows.proofs.ServeLaws.{serves_plan, serves_faulty}
+use Rattle.st_flows.proofs.ServeLaws.{serves_plan}
 use Rattle.st_protocol.proofs.GatherLaws.{joined-push}
 use Rattle.std.proofs.lemmas.List.{append-nil}
 use Rattle.st_config.specs.Taken.{IsTaken}
@@ -33,7 +30,7 @@ use Rattle.st_server.specs.Serving.{seat_by, StandsBy, Stands, plan_by_message, 
 use Rattle.st_server.specs.Deployed.{world_deployment, keyed_seals}
 use Rattle.st_server.proofs.ServeLaws.{same_joined}
 use Rattle.st_world.specs.declared.world.World.{World}
-use Rattle.st_world.specs.Standing.{IsSet, IsWorld, IsStanding}
+use Rattle.st_world.specs.Standing.{IsSet, IsWorld}
 use Rattle.st_world.specs.Serving.{IsPlannedFor, after_plan, IsSettled}
 
 pub not_written : (d : Deployment) (changes : List Change) → (world_deployment d).formats.body_size changes ≡ 0

@@ -1,8 +1,7 @@
 -- A world in memory stands for a world of the definitions.
-use Rattle.std.specs.Prelude.{ℕ, ◌≡◌, Option, Some, None, List, ◌≤◌, length}
+use Rattle.std.specs.Prelude.{ℕ, ◌≡◌, Option, Some, None, ◌≤◌, length}
 use Rattle.st_words.specs.declared.deployment.Deployment.{Deployment}
 use Rattle.st_message.specs.declared.message.Message.{Message}
-use Rattle.st_schedule.specs.declared.limits.TheConstants.{MOST_MESSAGES}
 use Rattle.st_seal.specs.Scheme.{scheme_of}
 use Rattle.st_seal.specs.Keyed.{keyed_pen}
 use Rattle.st_seal.specs.KeyedSchemes.{keyed_scheme}

@@ -1,6 +1,5 @@
 -- What isn't delivered yet, and the clients, as a world sees them.
-use Rattle.std.specs.Prelude.{ℕ, List, [], ◌∷◌, Option, Some, None, drop, map}
-use Rattle.st_schedule.specs.declared.line.Dest.{Dest}
+use Rattle.std.specs.Prelude.{ℕ, List, Option, Some, None, drop, map}
 use Rattle.st_tables.specs.Entries.{entry}
 use Rattle.st_protocol.specs.World as model
 use Rattle.st_protocol.specs.World.{Customer, fresh_customer}

@@ -4,6 +4,7 @@
 mod customer;
 mod deliver;
 mod error;
+mod new;
 mod pair;
 mod send;
 mod serve;

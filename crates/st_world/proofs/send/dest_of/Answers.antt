@@ -1,5 +1,5 @@
 -- All servers, and those of a site, are one.
-use Rattle.std.proofs.Common.{◌≡◌, ◌∙◌, ap}
+use Rattle.std.proofs.Common.{◌∙◌, ap}
 use Rattle.st_message.specs.declared.event.Scope.{Scope}
 use Rattle.st_protocol.specs.World.{dests_of}
 use Rattle.st_server.specs.Deployed.{world_deployment}

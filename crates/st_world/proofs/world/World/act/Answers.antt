@@ -1,5 +1,5 @@
 -- The server's plan is settled.
-use Rattle.std.proofs.Common.{◌≡◌, ◌∙◌, sym, ap, [], ◌∷◌, ◌++◌}
+use Rattle.std.proofs.Common.{[], ◌∷◌, ◌++◌}
 use Rattle.st_seal.specs.KeyedSealers.{pen_of}
 use Rattle.st_world.proofs.ServeLaws.{capacity_is, planned, settles}
 use Rattle.st_world.proofs.world.World.act.Goals as goal

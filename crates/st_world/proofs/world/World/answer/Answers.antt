@@ -1,6 +1,5 @@
 -- A client takes its own Replies alone.
-use Rattle.std.proofs.Common.{◌≡◌, ◌∙◌, sym, ap, subst}
-use Rattle.std.proofs.lemmas.Bool.{eqb-true}
+use Rattle.std.proofs.Common.{◌∙◌, sym, ap, subst}
 use Rattle.st_message.specs.declared.message.Message.{Message}
 use Rattle.st_schedule.specs.declared.done.Done.TheVariants as dones
 use Rattle.st_protocol.specs.World.{Stepped}

@@ -1,5 +1,5 @@
 -- One message more is handed out.
-use Rattle.std.proofs.Common.{◌≡◌, ◌∙◌, sym, ap, subst, ◌≤◌, length, List, arith}
+use Rattle.std.proofs.Common.{◌∙◌, subst, List, arith}
 use Rattle.st_message.specs.declared.event.Output.{Output}
 use Rattle.st_protocol.specs.World.{hands_out}
 use Rattle.st_server.specs.Deployed.{world_deployment}

@@ -1,5 +1,5 @@
 -- The client is in its place.
-use Rattle.std.proofs.Common.{◌≡◌, ◌∙◌, ap, subst, Some}
+use Rattle.std.proofs.Common.{subst}
 use Rattle.st_client.specs.declared.client.Client.{Client}
 use Rattle.st_client.specs.Customers.{customer_of}
 use Rattle.st_protocol.specs.World.{with_customer}

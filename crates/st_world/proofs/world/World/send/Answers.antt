@@ -1,5 +1,5 @@
 -- One message more.
-use Rattle.std.proofs.Common.{◌≡◌, ◌∙◌, ap, ◌<◌, ◌≤◌, ◌∷◌, ◌++◌, [], arith, length}
+use Rattle.std.proofs.Common.{◌∙◌, ap, ◌∷◌, ◌++◌, [], arith}
 use Rattle.st_world.proofs.SendLaws.{sent_one, sent_too_many}
 use Rattle.st_world.proofs.world.World.send.Goals as goal
 

@@ -1,5 +1,5 @@
 -- The plan is handed out.
-use Rattle.std.proofs.Common.{◌≡◌, ◌∙◌, sym, ap, subst, Err}
+use Rattle.std.proofs.Common.{◌≡◌, ap, subst, Err}
 use Rattle.st_message.specs.declared.message.Message.{Message}
 use Rattle.st_protocol.specs.World.{Stepped}
 use Rattle.st_world.specs.declared.error.WorldError.TheVariants as errors

@@ -1,8 +1,7 @@
 -- The client takes the Reply.
-use Rattle.std.proofs.Common.{◌≡◌, ◌∙◌, ap, subst}
+use Rattle.std.proofs.Common.{◌∙◌, ap, subst}
 use Rattle.st_protocol.specs.World.{Customer, Answered, with_customer}
-use Rattle.st_client.specs.Customers.{customer_of}
-use Rattle.st_client.specs.Replying.{reply_customer, reply_outcome}
+use Rattle.st_client.specs.Replying.{reply_customer}
 use Rattle.st_world.specs.Standing.{IsWorld}
 use Rattle.st_world.proofs.world.World.take_reply.Goals as goal
 
