@@ -22,7 +22,7 @@ use Rattle.st_protocol.specs.Duty.{Course, Pen, Clean, Faulty, begins, carries, 
 use Rattle.st_protocol.proofs.GatherLaws.{firsts, gathered-append, joined-push}
 use Rattle.st_protocol.proofs.CourseLaws.{Follows, course_follows}
 use Rattle.st_live.specs.declared.live.Live.{Live}
-use Rattle.st_live.specs.LiveView.{IsLive, asked}
+use Rattle.st_live.specs.LiveView.{place_here, IsLive, asked}
 use Rattle.st_live.proofs.LiveLaws.{here_is}
 use Rattle.st_server.specs.declared.draft.Draft.{Draft}
 use Rattle.st_server.specs.declared.server.Server.{Server}
