@@ -4,3 +4,4 @@ pub mod ServeLaws
 pub mod CustomerLaws
 pub mod DeliverLaws
 pub mod NewLaws
+pub mod FlowLaws

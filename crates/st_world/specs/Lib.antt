@@ -3,3 +3,4 @@ pub mod Waiting
 pub mod Standing
 pub mod Handing
 pub mod Serving
+pub mod Flows

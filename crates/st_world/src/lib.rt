@@ -4,6 +4,7 @@
 mod customer;
 mod deliver;
 mod error;
+mod flow;
 mod new;
 mod pair;
 mod send;
@@ -11,5 +12,6 @@ mod serve;
 mod world;
 
 pub use error::WorldError;
+pub use flow::Flow;
 pub use pair::Pair;
 pub use world::World;
