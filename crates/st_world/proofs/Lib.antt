@@ -5,3 +5,4 @@ pub mod CustomerLaws
 pub mod DeliverLaws
 pub mod NewLaws
 pub mod FlowLaws
+pub mod SubmitLaws

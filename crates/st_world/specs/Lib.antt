@@ -4,3 +4,4 @@ pub mod Standing
 pub mod Handing
 pub mod Serving
 pub mod Flows
+pub mod Submitting

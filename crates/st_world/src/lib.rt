@@ -9,6 +9,7 @@ mod new;
 mod pair;
 mod send;
 mod serve;
+mod submit;
 mod world;
 
 pub use error::WorldError;

@@ -5,7 +5,7 @@ ghost use Rattle.st_world.specs.declared.error.WorldError.TheVariants as errors;
 ghost use Rattle.st_world.specs.Standing.{IsWorld};
 
 use crate::error::WorldError;
-use crate::world::World;
+use crate::world::{CAPACITY, World};
 use st_fields::Seq;
 use st_message::Here;
 use st_seal::KeyedSeals;
@@ -13,9 +13,6 @@ use st_server::Server;
 use st_tables::Table;
 use st_words::{Deployment, LocalView, ServerId, View, Who};
 use std::alloc::Global;
-
-/// How many seals a party has.
-const CAPACITY: u32 = 1_048_576;
 
 impl World {
     /// A world of a deployment that is taken today, before its first event.

@@ -1,4 +1,4 @@
-ghost use Rattle.std.specs.Prelude.{◌≡◌, ◌≢◌, ℕ, [], ◌∷◌, Err, OnOk};
+ghost use Rattle.std.specs.Prelude.{◌≡◌, ◌≢◌, ℕ, [], ◌∷◌, length, Err, IfOk, OnOk};
 ghost use Rattle.st_words.specs.declared.deployment.Deployment.{Deployment};
 ghost use Rattle.st_message.specs.declared.message.Message.{Message};
 ghost use Rattle.st_protocol.specs.World as model;
@@ -18,9 +18,10 @@ use st_words::ServerId;
 use std::alloc::Global;
 
 impl World {
-    /// Sends a message: it gets the next number, and waits for its destinations.
-    pub fn send(&mut self, message: Shared<Message>, to: Scope) -> Result<(), WorldError>
+    /// Sends a message: it gets the next number, which is answered, and waits for its destinations.
+    pub fn send(&mut self, message: Shared<Message>, to: Scope) -> Result<u32, WorldError>
         ensures sent { OnOk result ((d : Deployment) (m : model.World Message) → IsWorld self.old d m → IsWorld self.new d (sends_to (world_deployment d) m message (dests_of (world_deployment d) to))) }
+        ensures number { IfOk result (λ number. number ≡ length self.old.sent) }
         ensures many { result ≡ Err errors.TooMany → (d : Deployment) (m : model.World Message) → IsWorld self.old d m → HasTooMany (sends_to (world_deployment d) m message (dests_of (world_deployment d) to)).ended }
         ensures named { result ≢ Err errors.BadReference }
     {
@@ -33,7 +34,7 @@ impl World {
             message: number as u32,
             to: dest_of(to),
         })?;
-        Ok(())
+        Ok(number as u32)
     }
 
     /// Sends a server's messages, in order.
@@ -46,7 +47,7 @@ impl World {
             let message = output.message.copy(alloc)?;
             let message = Shared::new(alloc, message)?;
             match self.send(message, output.to) {
-                Ok(()) => {}
+                Ok(_) => {}
                 Err(error) => return Err(error),
             }
         }

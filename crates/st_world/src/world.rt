@@ -6,6 +6,9 @@ use st_seal::{KeyedSealer, KeyedSeals};
 use st_server::Server;
 use st_tables::Table;
 
+/// How many seals a party has.
+pub(crate) const CAPACITY: u32 = 1_048_576;
+
 /// A world of one server and its clients.
 #[derive(Drop)]
 pub struct World {
