@@ -6,3 +6,4 @@ pub mod DeliverLaws
 pub mod NewLaws
 pub mod FlowLaws
 pub mod SubmitLaws
+pub mod StepLaws

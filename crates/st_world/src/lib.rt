@@ -9,6 +9,7 @@ mod new;
 mod pair;
 mod send;
 mod serve;
+mod step;
 mod submit;
 mod world;
 
