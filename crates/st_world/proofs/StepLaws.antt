@@ -13,7 +13,7 @@ use Rattle.st_protocol.specs.World.{Fault, Stepped, stepped, ends}
 use Rattle.st_protocol.specs.Schedule.{submits, flows, flowed, step}
 use Rattle.st_server.specs.Deployed.{world_deployment}
 use Rattle.st_world.specs.declared.world.World.{World}
-use Rattle.st_world.specs.Standing.{IsWorld}
+use Rattle.st_world.specs.Standing.{IsWorld, IsStanding}
 use Rattle.st_world.specs.Flows.{begun}
 
 client_step : (d : Deployment) (m : model.World Message) (client : ClientId) (op : Bytes)
@@ -53,3 +53,12 @@ flow_step d m pairs = refl
 pub on_ok_weaker : {T E : Type 0} (r : Result T E) (P Q : Type 0) → (P → Q) → OnOk r P → OnOk r Q
 on_ok_weaker (Ok x) P Q then holds = then holds
 on_ok_weaker (Err e) P Q then holds = holds
+
+-- a world that stands for what a world of the definitions came to stands still
+pub stands_still : {T E : Type 0} (r : Result T E) (old new : World) (next : Deployment → model.World Message → model.World Message) → IsStanding old
+    → OnOk r ((d : Deployment) (m : model.World Message) → IsWorld old d m → IsWorld new d (next d m)) → OnOk r (IsStanding new)
+stands_still r old new next so goes =
+    on_ok_weaker r ((d : Deployment) (m : model.World Message) → IsWorld old d m → IsWorld new d (next d m)) (IsStanding new)
+    (λ (f : (d : Deployment) (m : model.World Message) → IsWorld old d m → IsWorld new d (next d m)).
+    record { deployment = so.deployment; model = next so.deployment so.model; stands = f so.deployment so.model so.stands })
+    goes

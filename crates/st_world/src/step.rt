@@ -23,6 +23,7 @@ impl World {
         requires built { IsBuilt line.now }
         ensures stepped { OnOk result ((d : Deployment) (m : model.World Message) → IsWorld self.old d m → IsWorld self.new d (step (world_deployment d) m line.now).world) }
         ensures done { IfOk result (λ done. (d : Deployment) (m : model.World Message) → IsWorld self.old d m → done ≡ (step (world_deployment d) m line.now).done) }
+        ensures stands { OnOk result (IsStanding self.new) }
         ensures many { result ≡ Err errors.TooMany → (d : Deployment) (m : model.World Message) → IsWorld self.old d m → HasTooMany (step (world_deployment d) m line.now).world.ended }
         ensures missing { result ≡ Err errors.BadReference → (d : Deployment) (m : model.World Message) → IsWorld self.old d m → (step (world_deployment d) m line.now).world.ended ≡ Some model.BadReference }
     {
@@ -38,6 +39,7 @@ impl World {
         requires stands { IsStanding self.old }
         ensures stepped { OnOk result ((d : Deployment) (m : model.World Message) → IsWorld self.old d m → IsWorld self.new d (step (world_deployment d) m (lines.Client client op.now)).world) }
         ensures done { IfOk result (λ done. (d : Deployment) (m : model.World Message) → IsWorld self.old d m → done ≡ (step (world_deployment d) m (lines.Client client op.now)).done) }
+        ensures stands { OnOk result (IsStanding self.new) }
         ensures many { result ≡ Err errors.TooMany → (d : Deployment) (m : model.World Message) → IsWorld self.old d m → HasTooMany (step (world_deployment d) m (lines.Client client op.now)).world.ended }
         ensures missing { result ≡ Err errors.BadReference → (d : Deployment) (m : model.World Message) → IsWorld self.old d m → (step (world_deployment d) m (lines.Client client op.now)).world.ended ≡ Some model.BadReference }
     {

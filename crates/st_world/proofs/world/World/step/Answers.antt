@@ -7,7 +7,7 @@ use Rattle.st_protocol.specs.Schedule.{step}
 use Rattle.st_schedule.specs.declared.line.Line.{Line}
 use Rattle.st_server.specs.Deployed.{world_deployment}
 use Rattle.st_world.specs.Standing.{IsWorld, HasTooMany}
-use Rattle.st_world.proofs.StepLaws.{flow_step, on_ok_weaker}
+use Rattle.st_world.proofs.StepLaws.{flow_step, on_ok_weaker, stands_still}
 use Rattle.st_world.proofs.world.World.step.Goals as goal
 
 pub returns-in-Flow-clause-stepped : goal.returns-in-Flow-clause-stepped
@@ -32,3 +32,6 @@ returns-in-Flow-clause-many c =
     λ is d m stands.
     subst (λ (x : Line). HasTooMany (step (world_deployment d) m x).world.ended) (sym c.in-Flow.is)
     (subst (λ (x : Stepped Message). HasTooMany x.world.ended) (sym (flow_step d m c.in-Flow.pairs)) (c.flow.ensures.many is d m stands))
+
+pub returns-in-Flow-clause-stands : goal.returns-in-Flow-clause-stands
+returns-in-Flow-clause-stands c = stands_still c.flow.result c.args.self.now c.flow.new.self _ c.requires.stands c.flow.ensures.flowed
