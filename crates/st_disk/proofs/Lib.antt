@@ -1,0 +1,3 @@
+-- Lemmas.
+pub mod Moments
+pub mod Records

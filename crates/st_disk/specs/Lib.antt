@@ -1,0 +1,10 @@
+-- The definitions that contracts cite.
+pub mod Calls
+pub mod Countdowns
+pub mod Crashes
+pub mod FileDisks
+pub mod FileRacks
+pub mod Files
+pub mod Memory
+pub mod MemoryLaws
+pub mod Racks

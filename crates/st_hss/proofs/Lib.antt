@@ -1,0 +1,3 @@
+-- Lemmas.
+pub mod KeptLaws
+pub mod SealLaws

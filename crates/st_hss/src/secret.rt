@@ -1,0 +1,15 @@
+use st_lms::LmsSecret;
+
+/// How many levels of trees a key has.
+#[derive(Clone, Copy, Debug, PartialEq, Eq)]
+pub enum Levels {
+    One,
+    Two,
+}
+
+/// All that a key is made from: both levels have the types of the first tree.
+#[derive(Clone, Copy, Debug, PartialEq, Eq)]
+pub struct HssSecret {
+    pub levels: Levels,
+    pub first: LmsSecret,
+}

@@ -1,0 +1,6 @@
+-- Lemmas.
+pub mod BlockLaws
+pub mod Counts
+pub mod CrashLaws
+pub mod Runs
+pub mod Steps

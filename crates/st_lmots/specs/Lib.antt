@@ -1,0 +1,4 @@
+-- The definitions that contracts cite.
+pub mod Kinds
+pub mod Formulas
+pub mod Answers

@@ -1,0 +1,4 @@
+-- Lemmas.
+pub mod PathLaws
+pub mod SealLaws
+pub mod TreeLaws
