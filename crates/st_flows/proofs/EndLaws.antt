@@ -1,23 +1,22 @@
 -- What ended a world stays, whatever comes after.
 use Rattle.std.proofs.Common.{◌≡◌, ℕ, Bool, List, [], ◌∷◌, ap}
-use Rattle.std.specs.Prelude.{Option, Some, None, slice_get}
+use Rattle.std.specs.Prelude.{Option, Some, slice_get}
 use Rattle.st_words.specs.declared.ids.Who.{Who}
 use Rattle.st_words.specs.declared.statement.Statement.{Statement}
 use Rattle.st_words.specs.declared.statement.Statement.TheVariants.{Prepare}
 use Rattle.st_seal.specs.declared.quorum.Signed.{Signed}
 use Rattle.st_message.specs.declared.event.Output.{Output}
-use Rattle.st_message.specs.declared.event.Plan.{Plan}
 use Rattle.st_message.specs.declared.message.Message.TheVariants as messages
 use Rattle.st_schedule.specs.declared.line.Dest.{Dest}
 use Rattle.st_schedule.specs.declared.line.Line.{Line}
 use Rattle.st_schedule.specs.declared.line.Line.TheVariants as lines
 use Rattle.st_schedule.specs.declared.done.Done.TheVariants as done
 use Rattle.st_protocol.specs.Words.{server_at}
-use Rattle.st_protocol.specs.Keeping.{given, or_else}
+use Rattle.st_protocol.specs.Keeping.{or_else}
 use Rattle.st_protocol.specs.Duty.{Event, Tick}
-use Rattle.st_protocol.specs.World.{Deployment, Fault, BadReference, Stand, Running, Stopped, Full, Node, Pair, Customer, World, handed, same_dest, stepped, with_node, with_customer, with_waiting, uses_leaf, ends, hands, send_fault, dests_of, sends_to, notes_seal, hands_one, hands_out, settled, is_full_by, is_stopped_by, stands_full, stands_stopped, plan_at, comes_to, by_stand, serves, delivers}
+use Rattle.st_protocol.specs.World.{Deployment, Fault, BadReference, Node, Pair, Customer, World, same_dest, stepped, with_node, with_customer, with_waiting, uses_leaf, ends, hands, send_fault, dests_of, sends_to, hands_out, serves, delivers}
 use Rattle.st_protocol.specs.Schedule.{is_pair, without, Flowing, sealed_message, set_to_stop, timeout_event, drops, flows, restarted, client_seal_of, then_assigns, seals, forged_by, is_reference, goes, step, goes_on, steps}
-use Rattle.st_flows.proofs.KeptLaws.{IsKept, if_kept, given_kept, delivers_kept, flows_kept, submits_kept}
+use Rattle.st_flows.proofs.KeptLaws.{IsKept, IsKeptByServers, hands_out_kept, serves_kept, if_kept, given_kept, delivers_kept, flows_kept, submits_kept}
 
 module _ {Wire : Type 0} (d : Deployment Wire) (f : Fault) where
   -- ended by this fault
@@ -36,60 +35,12 @@ module _ {Wire : Type 0} (d : Deployment Wire) (f : Fault) where
   unfolding ends
   ends_ended world fault e = ap (λ o. or_else o fault) e
 
-  -- noting a seal changes no fault
-  notes_ended : (site index : ℕ) (world : World Wire) (o : Output) → world.ended ≡ Some f → (notes_seal d site index world o).ended ≡ Some f
-  unfolding notes_seal hands
-  notes_ended site index world o e = by_leaf o.leaf (handed site o.message)
-    where
-      by_leaf : (leaf : Option ℕ) (x : Option Statement) → (given leaf world (λ n. given x world (λ s. hands world (server_at site index) n s))).ended ≡ Some f
-      by_leaf None x = e
-      by_leaf (Some n) None = e
-      by_leaf (Some n) (Some s) = e
-
-  -- after one message of a server's
-  pub hands_one_ended : (site index : ℕ) (world : World Wire) (o : Output) → world.ended ≡ Some f → (hands_one d site index world o).ended ≡ Some f
-  unfolding hands_one
-  hands_one_ended site index world o e =
-      sends_to_ended (notes_seal d site index world o) (d.formats.encode o.message) (dests_of d o.to) (notes_ended site index world o e)
-
-  -- after all messages of a server's
-  pub hands_out_ended : (site index : ℕ) (world : World Wire) (outputs : List Output) → world.ended ≡ Some f → (hands_out d site index world outputs).ended ≡ Some f
-  hands_out_ended site index world [] e = e
-  hands_out_ended site index world (o ∷ os) e = hands_out_ended site index (hands_one d site index world o) os (hands_one_ended site index world o e)
-
-  -- ---- a server's event
+  -- ---- the small changes
 
   -- a changed server changes no fault
   node_ended : (world : World Wire) (site index : ℕ) (node : Node) → world.ended ≡ Some f → (with_node world site index node).ended ≡ Some f
   unfolding with_node
   node_ended world site index node e = e
-
-  -- after a plan
-  pub comes_to_ended : (world : World Wire) (site index : ℕ) (plan : Plan) → world.ended ≡ Some f → (comes_to d world site index plan).world.ended ≡ Some f
-  unfolding comes_to
-  comes_to_ended world site index plan e =
-      let node : Node = world.nodes site index in
-      if_kept d Ended (is_full_by d node plan) _ _
-      (node_ended world site index (stands_full d node) e)
-      (if_kept d Ended (is_stopped_by d node plan) _ _
-      (node_ended world site index (stands_stopped d node plan.changes) e)
-      (hands_out_ended site index (with_node world site index (settled d node plan)) plan.outputs
-      (node_ended world site index (settled d node plan) e)))
-
-  -- after an event of a server that isn't faulty
-  stand_ended : (world : World Wire) (site index : ℕ) (event : Event Wire) (stand : Stand) → world.ended ≡ Some f →
-      (by_stand d world site index event stand).world.ended ≡ Some f
-  stand_ended world site index event Running e = comes_to_ended world site index (plan_at d world site index event) e
-  stand_ended world site index event Stopped e = e
-  stand_ended world site index event Full e = e
-
-  -- after an event of a server
-  pub serves_ended : (world : World Wire) (site index : ℕ) (event : Event Wire) → world.ended ≡ Some f → (serves d world site index event).world.ended ≡ Some f
-  unfolding serves
-  serves_ended world site index event e =
-      if_kept d Ended (d.faulty site index) _ _ e (stand_ended world site index event (world.nodes site index).stand e)
-
-  -- ---- the small changes
 
   -- a changed client changes no fault
   customer_ended : (world : World Wire) (client : ℕ) (customer : Customer) → world.ended ≡ Some f → (with_customer world client customer).ended ≡ Some f
@@ -111,15 +62,31 @@ module _ {Wire : Type 0} (d : Deployment Wire) (f : Fault) where
   unfolding uses_leaf
   leaf_ended world site index e = e
 
+  -- ---- a server's event
+
+  -- a server's changes and messages keep it
+  ended_by_servers : IsKeptByServers d Ended
+  ended_by_servers = record { changing = node_ended; handing = hands_ended; sending = λ world wire to. sends_to_ended world wire (dests_of d to) }
+
+  -- after all messages of a server's
+  pub hands_out_ended : (site index : ℕ) (world : World Wire) (outputs : List Output) → world.ended ≡ Some f → (hands_out d site index world outputs).ended ≡ Some f
+  hands_out_ended = hands_out_kept d Ended ended_by_servers
+
+  -- after an event of a server
+  pub serves_ended : (world : World Wire) (site index : ℕ) (event : Event Wire) → world.ended ≡ Some f → (serves d world site index event).world.ended ≡ Some f
+  serves_ended = serves_kept d Ended ended_by_servers
+
+  -- ---- a delivery, and a flow
+
   -- the parts keep it
   ended_is_kept : IsKept d Ended
   ended_is_kept =
       record {
         serving = serves_ended;
         client = customer_ended;
-        waiting = waiting_ended;
+        waiting = λ world first pairs is. waiting_ended world pairs;
         handing = hands_ended;
-        sending = sends_to_ended;
+        sending = λ world wire to. sends_to_ended world wire (dests_of d to);
         ending = ends_ended;
       }
 

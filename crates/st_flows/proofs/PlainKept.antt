@@ -14,7 +14,7 @@ use Rattle.st_schedule.specs.declared.done.Done.TheVariants as done
 use Rattle.st_protocol.specs.Words.{Bytes, server_at}
 use Rattle.st_protocol.specs.Keeping.{given}
 use Rattle.st_protocol.specs.Duty.{Event}
-use Rattle.st_protocol.specs.World.{Deployment, Fault, Node, Pair, Customer, World, is_nil, handed, Stepped, stepped, with_node, with_customer, with_waiting, ends, hands, sends_to, notes_seal, hands_one, hands_out, settled, plan_at, by_stand, serves, delivers}
+use Rattle.st_protocol.specs.World.{Deployment, Fault, Node, Pair, Customer, World, is_nil, handed, Stepped, stepped, with_node, with_customer, with_waiting, ends, hands, dests_of, sends_to, notes_seal, hands_one, hands_out, settled, plan_at, by_stand, serves, delivers}
 use Rattle.st_protocol.specs.Schedule.{is_built_line, Flowing, flows, submits, step}
 use Rattle.st_protocol.specs.Plain.{IsPlain, ArePlain}
 use Rattle.st_protocol.proofs.GatherLaws.{fold-keeps}
@@ -145,9 +145,9 @@ module _ {Wire : Type 0} (d : Deployment Wire) where
         record {
           serving = plain_after_event;
           client = plain_with_customer;
-          waiting = plain_with_waiting;
+          waiting = λ world first pairs is. plain_with_waiting world pairs;
           handing = plain_hands;
-          sending = plain_sends_to;
+          sending = λ world wire to. plain_sends_to world wire (dests_of d to);
           ending = plain_ends;
         }
 

@@ -1,8 +1,10 @@
 //! Laws of a world and its event lines: each law is the contract of a function that has nothing to do.
 #![tactic(auto)]
 
-ghost use Rattle.std.specs.Prelude.{◌≡◌, ℕ, ◌+◌, ◌<◌, ◌≤◌, true, false, cond, nat_le, Some, None, List, [], ◌∷◌, ◌++◌, length, map, slice_get};
+ghost use Rattle.std.specs.Prelude.{◌≡◌, ℕ, ◌+◌, ◌*◌, ◌<◌, ◌≤◌, true, false, cond, nat_le, Some, None, List, [], ◌∷◌, ◌++◌, length, map, slice_get};
+ghost use Rattle.std.specs.List.{All};
 ghost use Rattle.st_message.specs.declared.event.Output.{Output};
+ghost use Rattle.st_message.specs.declared.event.Scope.{Scope};
 ghost use Rattle.st_message.specs.declared.change.Change.{Change};
 ghost use Rattle.st_schedule.specs.declared.limits.TheConstants.{MOST_MESSAGES};
 ghost use Rattle.st_schedule.specs.declared.line.Dest.{Dest};
@@ -10,7 +12,7 @@ ghost use Rattle.st_schedule.specs.declared.line.Line.{Line};
 ghost use Rattle.st_schedule.specs.declared.done.Done.TheVariants as done;
 ghost use Rattle.st_protocol.specs.Words.{Bytes};
 ghost use Rattle.st_protocol.specs.Duty.{Deliver};
-ghost use Rattle.st_protocol.specs.World.{Deployment, Fault, TooMany, Pair, World, stepped, with_node, with_waiting, settled, sent_size, send_fault, sends_to, hands_out, plan_at, serves, delivers};
+ghost use Rattle.st_protocol.specs.World.{Deployment, Fault, TooMany, Pair, World, empty, dests_of, stepped, with_node, with_waiting, settled, sent_size, send_fault, sends_to, hands_out, plan_at, serves, delivers};
 ghost use Rattle.st_protocol.specs.Schedule.{is_built_line, Flowing, counts, flows, submits, goes, step, steps};
 ghost use Rattle.st_protocol.specs.Report.{came_from};
 ghost use Rattle.st_protocol.specs.Plain.{ArePlain};
@@ -69,6 +71,15 @@ pub fn sends_of_no_bytes<Wire>()
         MOST_MESSAGES ≤ length world.sent → world.ended ≡ None → (sends_to d world wire to).ended ≡ Some (TooMany (length world.sent + 1)) }
 {}
 
+/// A world that goes on has sent no more than the most messages, and where no message has more than so many
+/// destinations, no more pairs wait than these make.
+pub fn worlds_stay_small<Wire>()
+    ensures sent { (d : Deployment Wire) (most : ℕ) (all : List Line) → All (λ line. is_built_line line ≡ true) all →
+        ((to : Scope) → length (dests_of d to) ≤ most) → (steps d empty all).ended ≡ None → length (steps d empty all).sent ≤ MOST_MESSAGES }
+    ensures waiting { (d : Deployment Wire) (most : ℕ) (all : List Line) → All (λ line. is_built_line line ≡ true) all →
+        ((to : Scope) → length (dests_of d to) ≤ most) → length (steps d empty all).waiting ≤ most * length (steps d empty all).sent }
+{}
+
 /// One event line more at the end is one step more, and what it comes to is said after the others.
 pub fn lines_one_by_one<Wire>()
     ensures world { (d : Deployment Wire) (world : World Wire) (before : List Line) (line : Line) →
@@ -103,6 +114,7 @@ mod tests {
         plain_worlds_stay_plain::<Message>();
         flows_one_by_one::<Message>();
         sends_of_no_bytes::<Message>();
+        worlds_stay_small::<Message>();
         lines_one_by_one::<Message>();
         deliveries_to_servers::<Message>();
         assert!(rt; true);

@@ -1,5 +1,5 @@
 -- Which answer is given to which words and bytes.
-use Rattle.std.proofs.Common.{◌≡◌, ◌∙◌, ◌<◌, ◌≤◌, ℕ, true, false, List, length, leb, Option, Some, None, inl, inr, refl, sym, arith}
+use Rattle.std.proofs.Common.{◌≡◌, ◌≢◌, ◌∙◌, ap, ◌<◌, ◌≤◌, ℕ, true, false, List, length, leb, Option, Some, None, inl, inr, refl, sym, arith}
 use Rattle.std.proofs.lemmas.Bool.{cond-true, cond-false, cond_both, leb-true, false_from_ne_true, false≢true}
 use Rattle.st_protocol.specs.World.{BadReference, Forged, TooMany, TooMuch}
 use Rattle.st_input.specs.declared.input.TheConstants.{MOST_INPUT}
@@ -7,9 +7,18 @@ use Rattle.st_input.specs.declared.input.Input.{Input}
 use Rattle.st_input.specs.Input.{input_of}
 use Rattle.st_run.specs.declared.answer.Answer.{Answer}
 use Rattle.st_run.specs.declared.status.Status.TheVariants as statuses
-use Rattle.st_run.specs.Replay.{Replayed, Reported, Ended, replay_of}
+use Rattle.st_replay.specs.Replay.{Replayed, Reported, Ended, replay_of}
 use Rattle.st_run.specs.Answers.{answer_of, bad_input, bytes_answer, forged, input_answer, is_replay, replay_answer, too_large, usage}
 use Rattle.st_run.specs.Outcomes.{IsAnswered, IsAnswerTo}
+use Rattle.st_run.specs.Promised.{IsPromised}
+use Rattle.std.specs.Prelude.{Result, Ok, Err, IfOk}
+use Rattle.std.specs.List.{All}
+use Rattle.st_fields.specs.declared.error.WordsError.{WordsError}
+use Rattle.st_schedule.specs.Ranges.{IsBuilt}
+use Rattle.st_config.specs.Taken.{IsTaken}
+use Rattle.st_replay.specs.Lines.{events_in}
+use Rattle.st_replay.proofs.SizeLaws.{built_events}
+use Rattle.st_promises.proofs.PromiseLaws.{always_keeps}
 
 pub usage_answered : IsAnswered usage.status
 unfolding usage
@@ -88,3 +97,29 @@ told_by_words words left other = inl (other, refl)
 pub told_by_source : (words : List (List ℕ)) (left : Option (List ℕ)) (bytes : List ℕ) → left ≡ Some bytes → IsAnswerTo words left (answer_of words bytes)
 unfolding IsAnswerTo
 told_by_source words left bytes told = inr (bytes, told, refl)
+
+-- ---- what is promised of a report
+
+pub never_ok_usage : (answer : Answer) → answer ≡ usage → answer.status ≢ statuses.Ok
+unfolding usage
+never_ok_usage answer is ok = let no : statuses.Usage ≡ statuses.Ok = sym (ap (λ (a : Answer). a.status) is) ∙ ok in cc
+
+pub never_ok_too_large : (answer : Answer) → answer ≡ too_large → answer.status ≢ statuses.Ok
+unfolding too_large
+never_ok_too_large answer is ok = let no : statuses.TooLarge ≡ statuses.Ok = sym (ap (λ (a : Answer). a.status) is) ∙ ok in cc
+
+never_ok_bad_input : (answer : Answer) → answer ≡ bad_input → answer.status ≢ statuses.Ok
+unfolding bad_input
+never_ok_bad_input answer is ok = let no : statuses.BadInput ≡ statuses.Ok = sym (ap (λ (a : Answer). a.status) is) ∙ ok in cc
+
+-- a bad input has no report
+pub bad_input_promises : (r : Result Answer WordsError) (bytes : List ℕ) → IfOk r (λ answer. answer ≡ bad_input) → IfOk r (λ answer. answer.status ≡ statuses.Ok → IsPromised bytes)
+bad_input_promises (Ok answer) bytes is = λ ok. absurd (never_ok_bad_input answer is ok)
+bad_input_promises (Err error) bytes is = tt
+
+-- an input that was read has a world that keeps its promises
+pub input_promises : (r : Result Answer WordsError) (bytes : List ℕ) (input : Input) → input_of bytes ≡ Some input → IsTaken input.deployment → All (λ x. IsBuilt x.line) input.lines
+    → IfOk r (λ answer. answer.status ≡ statuses.Ok → IsPromised bytes)
+input_promises (Ok answer) bytes input spells taken built =
+    λ ok. record { input = input; spells = spells; keeps = always_keeps input.deployment (events_in input.lines) taken (built_events input.lines built) }
+input_promises (Err error) bytes input spells taken built = tt

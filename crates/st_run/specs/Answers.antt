@@ -7,7 +7,7 @@ use Rattle.st_input.specs.Input.{input_of}
 use Rattle.st_run.specs.declared.answer.Answer.{Answer}
 use Rattle.st_run.specs.declared.status.Status.{Status}
 use Rattle.st_run.specs.declared.status.Status.TheVariants as statuses
-use Rattle.st_run.specs.Replay.{Replayed, Reported, Ended, replay_of}
+use Rattle.st_replay.specs.Replay.{Replayed, Reported, Ended, replay_of}
 
 -- a text and a newline
 abbrev pub line : List ℕ → List ℕ

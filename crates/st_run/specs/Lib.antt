@@ -3,4 +3,4 @@ pub mod Answers
 pub mod Example
 pub mod Exit
 pub mod Outcomes
-pub mod Replay
+pub mod Promised

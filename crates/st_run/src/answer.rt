@@ -1,12 +1,17 @@
 ghost use Rattle.std.specs.Prelude.{◌≡◌, ◌≤◌, ◌∷◌, ◌++◌, [], map, length, string_bytes, IfOk, ◌↔◌};
 ghost use Rattle.st_run.specs.Answers.{answer_in, bad_input, bytes_answer, input_answer, is_replay, line, replay_answer, too_large, usage};
-ghost use Rattle.st_run.specs.Replay.{replay_of};
+ghost use Rattle.st_replay.specs.Replay.{replay_of};
+ghost use Rattle.std.specs.List.{All};
+ghost use Rattle.st_schedule.specs.Ranges.{IsBuilt};
+ghost use Rattle.st_config.specs.Taken.{IsTaken};
 ghost use Rattle.st_input.specs.Input.{input_of};
+ghost use Rattle.st_run.specs.Promised.{IsPromised};
+ghost use Rattle.st_run.specs.declared.status.Status.TheVariants as statuses;
 
-use crate::replays::{ReplayError, Replays};
 use crate::status::Status;
 use st_fields::{Bytes, Seq, WordsError};
 use st_input::{Input, InputError, MOST_INPUT, read_input};
+use st_replay::{ReplayError, replay};
 use std::alloc::{AllocError, Global};
 
 /// What a run answers.
@@ -77,22 +82,25 @@ pub(crate) fn too_large(alloc: Global) -> Result<Answer, WordsError>
 
 /// The answer to an input's bytes.
 #[tactic(auto, unfolding(crate::specs::Answers::bytes_answer))]
-pub(crate) fn bytes_answer<R: Replays>(alloc: Global, bytes: &[u8]) -> Result<Answer, WordsError>
+pub(crate) fn bytes_answer(alloc: Global, bytes: &[u8]) -> Result<Answer, WordsError>
     requires { length bytes.now ≤ MOST_INPUT }
-    ensures { IfOk result (λ answer. answer ≡ bytes_answer bytes.now) }
+    ensures answer { IfOk result (λ answer. answer ≡ bytes_answer bytes.now) }
+    ensures promised { IfOk result (λ answer. answer.status ≡ statuses.Ok → IsPromised bytes.now) }
 {
     match read_input(alloc, bytes) {
-        Ok(input) => replay_answer::<R>(alloc, &input),
+        Ok(input) => replay_answer(alloc, &input),
         Err(InputError::BadInput) => bad_input(alloc),
         Err(InputError::OutOfMemory) => Err(WordsError::OutOfMemory),
     }
 }
 
 /// The answer to a replayed input.
-fn replay_answer<R: Replays>(alloc: Global, input: &Input) -> Result<Answer, WordsError>
-    ensures { IfOk result (λ answer. answer ≡ replay_answer (replay_of input.now)) }
+fn replay_answer(alloc: Global, input: &Input) -> Result<Answer, WordsError>
+    requires taken { IsTaken input.now.deployment }
+    requires built { All (λ x. IsBuilt x.line) input.now.lines }
+    ensures answer { IfOk result (λ answer. answer ≡ replay_answer (replay_of input.now)) }
 {
-    match R::replay(alloc, input) {
+    match replay(alloc, input) {
         Ok(text) => Ok(Answer {
             status: Status::Ok,
             text,

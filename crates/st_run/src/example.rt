@@ -2,7 +2,7 @@ ghost use Rattle.std.specs.Prelude.{◌≡◌, ℕ, List};
 ghost use Rattle.st_protocol.specs.World.{BadReference};
 ghost use Rattle.st_report.specs.Text.{report};
 ghost use Rattle.st_run.specs.Example.{idle_input, idle_rows, small_input, small_rows};
-ghost use Rattle.st_run.specs.Replay.{Ended, Reported, replay_of};
+ghost use Rattle.st_replay.specs.Replay.{Ended, Reported, replay_of};
 
 /// The definitions, computed, whatever the id and the seed are: an update of the one client through the
 /// one server comes to the report that `small_rows` says, no event lines come to the one that

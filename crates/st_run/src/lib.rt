@@ -4,13 +4,11 @@
 mod answer;
 mod example;
 mod program;
-mod replays;
 mod status;
 
 pub use answer::Answer;
 pub use example::a_small_replay;
 pub use program::run;
-pub use replays::{ReplayError, Replays};
 pub use status::Status;
 
 #[cfg(test)]

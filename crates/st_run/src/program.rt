@@ -4,11 +4,11 @@ ghost use Rattle.st_io.specs.Streams.{Adds, AddsFront};
 ghost use Rattle.st_run.specs.Answers.{is_replay};
 ghost use Rattle.st_run.specs.declared.answer.Answer.{Answer};
 ghost use Rattle.st_run.specs.Outcomes.{Gave, GaveFront, IsAnswerTo, IsAnswered};
+ghost use Rattle.st_run.specs.Promised.{IsPromised};
 ghost use Rattle.st_run.specs.declared.status.Status.TheVariants as statuses;
 ghost use Rattle.st_run.specs.declared.program.Stopped.TheVariants as stops;
 
 use crate::answer::{Answer, bytes_answer, is_replay, too_large, usage};
-use crate::replays::Replays;
 use crate::status::Status;
 use st_fields::WordsError;
 use st_input::MOST_INPUT;
@@ -35,16 +35,19 @@ impl From<WordsError> for Stopped {
 /// Runs the program that these words name, with the source as its input and the sink as its output.
 ///
 /// The source is read only for `replay`, to its end, and at most one byte more than an input has. The
-/// text is built before its first byte is written. ReadFault comes only where the source counted a
+/// text is built before its first byte is written. A report is that of a world which keeps its promises:
+/// correct servers' logs agree, each update in them was sealed by its client and ran at most once, and the
+/// event that completed a number's proof executed it. ReadFault comes only where the source counted a
 /// fault, and WriteFault only where the sink did; WriteFault goes before every other status. Where memory is
 /// refused, nothing is written unless the sink refused it, and then a front of the text is.
-pub fn run<R: Replays, S: Source, K: Sink>(
+pub fn run<S: Source, K: Sink>(
     alloc: Global,
     words: &Vec<String>,
     source: &mut S,
     sink: &mut K,
 ) -> Status
     ensures answered { (answer : Answer) → IsAnswerTo (map string_bytes words.now.items) (S.left source.old) answer → IsAnswered result → Gave result answer (K.taken sink.old) (K.taken sink.new) }
+    ensures promised { result ≡ statuses.Ok → (bytes : List ℕ) → S.left source.old ≡ Some bytes → IsPromised bytes }
     ensures unread { is_replay (map string_bytes words.now.items) ≡ false → S.left source.new ≡ S.left source.old }
     ensures rest { is_replay (map string_bytes words.now.items) ≡ true → (input : List ℕ) → S.left source.old ≡ Some input → IsAnswered result → S.left source.new ≡ Some (drop (MOST_INPUT + 1) input) }
     ensures whole { IsAnswered result → result ≢ statuses.TooLarge → S.faults source.new ≡ S.faults source.old }
@@ -55,7 +58,7 @@ pub fn run<R: Replays, S: Source, K: Sink>(
     ensures cut { (answer : Answer) → IsAnswerTo (map string_bytes words.now.items) (S.left source.old) answer → result ≡ statuses.WriteFault → AddsFront (K.taken sink.old) (K.taken sink.new) answer.text }
     ensures memory { (answer : Answer) → IsAnswerTo (map string_bytes words.now.items) (S.left source.old) answer → result ≡ statuses.OutOfMemory → GaveFront answer (K.taken sink.old) (K.taken sink.new) }
 {
-    match answer::<R, S>(alloc, words.as_slice(), source) {
+    match answer(alloc, words.as_slice(), source) {
         Ok(answer) => give(sink, &answer),
         Err(Stopped::ReadFault) => Status::ReadFault,
         Err(Stopped::OutOfMemory) => Status::OutOfMemory,
@@ -63,12 +66,9 @@ pub fn run<R: Replays, S: Source, K: Sink>(
 }
 
 /// The answer to the words and, where they are `replay`, to what the source gives.
-fn answer<R: Replays, S: Source>(
-    alloc: Global,
-    words: &[String],
-    source: &mut S,
-) -> Result<Answer, Stopped>
+fn answer<S: Source>(alloc: Global, words: &[String], source: &mut S) -> Result<Answer, Stopped>
     ensures told { (answer : Answer) → IsAnswerTo (map string_bytes words.now) (S.left source.old) answer → IfOk result (λ x. x ≡ answer) }
+    ensures promised { (bytes : List ℕ) → S.left source.old ≡ Some bytes → IfOk result (λ answer. answer.status ≡ statuses.Ok → IsPromised bytes) }
     ensures unread { is_replay (map string_bytes words.now) ≡ false → S.left source.new ≡ S.left source.old }
     ensures rest { is_replay (map string_bytes words.now) ≡ true → (input : List ℕ) → S.left source.old ≡ Some input → IfOk result (λ _. S.left source.new ≡ Some (drop (MOST_INPUT + 1) input)) }
     ensures whole { IfOk result (λ answer. answer.status ≢ statuses.TooLarge → S.faults source.new ≡ S.faults source.old) }
@@ -79,7 +79,7 @@ fn answer<R: Replays, S: Source>(
         return Ok(usage(alloc)?);
     }
     match read_all(alloc, source, MOST_INPUT) {
-        Ok(bytes) => Ok(bytes_answer::<R>(alloc, bytes.as_slice())?),
+        Ok(bytes) => Ok(bytes_answer(alloc, bytes.as_slice())?),
         Err(ReadError::TooLong) => Ok(too_large(alloc)?),
         Err(ReadError::Failed) => Err(Stopped::ReadFault),
         Err(ReadError::OutOfMemory) => Err(Stopped::OutOfMemory),

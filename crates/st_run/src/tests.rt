@@ -1,42 +1,109 @@
-use crate::{ReplayError, Replays, Status, run};
-use st_fields::Bytes;
-use st_input::Input;
+use crate::{Status, run};
+use st_fields::{Bytes, Seq, WordsError};
 use st_io::{MemorySink, MemorySource};
 use std::alloc::Global;
 use std::test::Fail;
 
-/// Replays nothing: memory is always refused.
-struct Refusing;
+const HEADER: &str =
+    "id = 7\nsites = 1\nf = 0\nclients = 1\nservice = \"list\"\nseals = \"keyed\"\nseed = \"0000000000000000000000000000000000000000000000000000000000000000\"\n---\n";
 
-impl Replays for Refusing {
-    fn replay(_alloc: Global, _input: &Input) -> Result<Bytes, ReplayError> {
-        Err(ReplayError::OutOfMemory)
+const USAGE: &[u8] = b"usage: steward replay | demo SEED COUNT | node WHO --turns T\n";
+
+/// How a run with these words and this input ended, and what it wrote.
+fn ran(alloc: Global, words: &[&str], input: &[u8]) -> Result<(Status, Bytes), WordsError> {
+    let mut list = Vec::new(alloc);
+    for word in words {
+        list.push(String::from_str(alloc, word)?)?;
     }
+    let mut source = MemorySource::new(alloc, input, &[])?;
+    let mut sink = MemorySink::new(alloc, 4096, &[])?;
+    let status = run(alloc, &list, &mut source, &mut sink);
+    let written = Seq::from_vec(Vec::from_slice(alloc, sink.taken())?);
+    Ok((status, written))
+}
+
+/// The header, and these event lines.
+fn input(alloc: Global, lines: &str) -> Result<String, WordsError> {
+    let mut text = String::from_str(alloc, HEADER)?;
+    text.push_str(lines)?;
+    Ok(text)
+}
+
+#[test]
+fn one_update_runs(rt: HostRuntime) -> Result<(), Fail> {
+    let alloc = rt.alloc();
+    let text = input(alloc, "client 0 6869\nflow 50\n")?;
+    let (status, written) = ran(alloc, &["replay"], text.as_bytes())?;
+    assert_eq!(rt; status, Status::Ok);
+    let report =
+        "deployment 7 sites 1 f 0 clients 1\nline 9 sent 0\nline 10 flow 7 did 7 ignored 0\nserver 0.0 running view 0 local 0 executed 1 leaf 4\nnumber 1 update 0 1 6869 ran 00000001\nclient 0 time 1 number 1 result 00000001\nsent 7 undelivered 0\n";
+    assert!(rt; written.as_slice() == report.as_bytes());
+    Ok(())
+}
+
+#[test]
+fn no_event_lines_run_nothing(rt: HostRuntime) -> Result<(), Fail> {
+    let alloc = rt.alloc();
+    let (status, written) = ran(alloc, &["replay"], HEADER.as_bytes())?;
+    assert_eq!(rt; status, Status::Ok);
+    let report =
+        "deployment 7 sites 1 f 0 clients 1\nserver 0.0 running view 0 local 0 executed 0 leaf 0\nclient 0 time 0 idle\nsent 0 undelivered 0\n";
+    assert!(rt; written.as_slice() == report.as_bytes());
+    Ok(())
+}
+
+#[test]
+fn an_operation_has_at_most_1024_bytes(rt: HostRuntime) -> Result<(), Fail> {
+    let alloc = rt.alloc();
+    let mut text = input(alloc, "client 0 ")?;
+    for _byte in 0..1024 {
+        text.push_str("ab")?;
+    }
+    let (status, _) = ran(alloc, &["replay"], text.as_bytes())?;
+    assert_eq!(rt; status, Status::Ok);
+    text.push_str("ab")?;
+    let (status, written) = ran(alloc, &["replay"], text.as_bytes())?;
+    assert_eq!(rt; status, Status::BadInput);
+    assert!(rt; written.as_slice() == b"bad input\n".as_slice());
+    Ok(())
+}
+
+#[test]
+fn a_client_that_does_not_exist_is_a_bad_input(rt: HostRuntime) -> Result<(), Fail> {
+    let alloc = rt.alloc();
+    let text = input(alloc, "client 1 aa\n")?;
+    let (status, written) = ran(alloc, &["replay"], text.as_bytes())?;
+    assert_eq!(rt; status.exit_code(), 4);
+    assert!(rt; written.as_slice() == b"bad input\n".as_slice());
+    Ok(())
+}
+
+#[test]
+fn message_65537_is_too_much(rt: HostRuntime) -> Result<(), Fail> {
+    let alloc = rt.alloc();
+    let mut text = input(alloc, "")?;
+    for _line in 0..65_537 {
+        text.push_str("client 0 aa\n")?;
+    }
+    let (status, written) = ran(alloc, &["replay"], text.as_bytes())?;
+    assert_eq!(rt; status, Status::TooLarge);
+    assert!(rt; written.as_slice() == b"too large\n".as_slice());
+    Ok(())
 }
 
 #[test]
 fn other_words_are_answered_with_the_usage(rt: HostRuntime) -> Result<(), Fail> {
     let alloc = rt.alloc();
-    let words = vec![in alloc; String::from_str(alloc, "demo")?]?;
-    let mut source = MemorySource::new(alloc, b"", &[])?;
-    let mut sink = MemorySink::new(alloc, 5, &[])?;
-    let status = run::<Refusing, MemorySource, MemorySink>(alloc, &words, &mut source, &mut sink);
-    assert_eq!(rt; status, Status::Usage);
-    assert!(rt;
-        sink.taken() == b"usage: steward replay | demo SEED COUNT | node WHO --turns T\n".as_slice()
-    );
-    Ok(())
-}
-
-#[test]
-fn a_bad_input_is_answered_so(rt: HostRuntime) -> Result<(), Fail> {
-    let alloc = rt.alloc();
-    let words = vec![in alloc; String::from_str(alloc, "replay")?]?;
-    let mut source = MemorySource::new(alloc, b"---\n", &[])?;
-    let mut sink = MemorySink::new(alloc, 64, &[])?;
-    let status = run::<Refusing, MemorySource, MemorySink>(alloc, &words, &mut source, &mut sink);
-    assert_eq!(rt; status.exit_code(), 4);
-    assert!(rt; sink.taken() == b"bad input\n".as_slice());
+    for words in [
+        ["replay", "x"].as_slice(),
+        &[],
+        &["node", "all"],
+        &["demo", "07", "40"],
+    ] {
+        let (status, written) = ran(alloc, words, b"")?;
+        assert_eq!(rt; status, Status::Usage);
+        assert!(rt; written.as_slice() == USAGE);
+    }
     Ok(())
 }
 
@@ -44,11 +111,11 @@ fn a_bad_input_is_answered_so(rt: HostRuntime) -> Result<(), Fail> {
 fn a_failed_write_goes_before_the_answer(rt: HostRuntime) -> Result<(), Fail> {
     let alloc = rt.alloc();
     let words = vec![in alloc; String::from_str(alloc, "replay")?]?;
-    let mut source = MemorySource::new(alloc, b"---\n", &[])?;
-    let mut sink = MemorySink::new(alloc, 3, &[1])?;
-    let status = run::<Refusing, MemorySource, MemorySink>(alloc, &words, &mut source, &mut sink);
+    let mut source = MemorySource::new(alloc, HEADER.as_bytes(), &[])?;
+    let mut sink = MemorySink::new(alloc, 10, &[1])?;
+    let status = run(alloc, &words, &mut source, &mut sink);
     assert_eq!(rt; status, Status::WriteFault);
-    assert!(rt; sink.taken() == b"bad".as_slice());
+    assert!(rt; sink.taken() == b"deployment".as_slice());
     Ok(())
 }
 
@@ -58,7 +125,7 @@ fn a_failed_read_writes_nothing(rt: HostRuntime) -> Result<(), Fail> {
     let words = vec![in alloc; String::from_str(alloc, "replay")?]?;
     let mut source = MemorySource::new(alloc, b"---\n", &[1])?;
     let mut sink = MemorySink::new(alloc, 64, &[])?;
-    let status = run::<Refusing, MemorySource, MemorySink>(alloc, &words, &mut source, &mut sink);
+    let status = run(alloc, &words, &mut source, &mut sink);
     assert_eq!(rt; status.exit_code(), 2);
     assert!(rt; sink.taken().is_empty());
     Ok(())

@@ -3,7 +3,7 @@ use Rattle.std.proofs.Common.{◌≡◌, ℕ, List, refl}
 use Rattle.st_report.specs.Text.{report}
 use Rattle.st_protocol.specs.World.{BadReference}
 use Rattle.st_run.specs.Example.{idle_input, idle_rows, small_input, small_rows}
-use Rattle.st_run.specs.Replay.{Ended, Reported}
+use Rattle.st_replay.specs.Replay.{Ended, Reported}
 use Rattle.st_protocol.specs.Assigning.{fill, fill_number, fills}
 use Rattle.st_protocol.specs.Collecting.{best_item, most, union}
 use Rattle.st_protocol.specs.Duty.{begins, carries, carries_change, course, emits, fills_up, keeps, makes, plan_of, plan_of_message, puts, records, replies, reports, reports_as, tick_out}
@@ -19,7 +19,7 @@ use Rattle.st_protocol.specs.Words.{same_items, same_statement}
 use Rattle.st_protocol.specs.World.{comes_to, delivers, empty, ends, first_bad, fresh_customer, fresh_node, hands, hands_one, has_handed, has_made, is_listed, notes_seal, on_checked_reply, pairs_to, sends_to, sent_size, serves, uses_leaf, with_customer, with_node, with_waiting}
 use Rattle.st_live.specs.Service.{list_serve}
 use Rattle.st_server.specs.Deployed.{keyed_seals, world_deployment}
-use Rattle.st_run.specs.Replay.{replay_of}
+use Rattle.st_replay.specs.Replay.{replay_of}
 use Rattle.st_run.proofs.example.a_small_replay.Goals as goal
 
 comes_to_rows : (id : ℕ) (seed : List ℕ) → replay_of (small_input id seed 0) ≡ Reported (report (small_rows id))

@@ -1,9 +1,10 @@
 -- By the words and by what was read.
-use Rattle.std.proofs.Common.{◌∙◌, ◌≤◌, Some, length, ap, sym, arith}
+use Rattle.std.proofs.Common.{◌∙◌, ◌≤◌, Some, length, ap, sym, subst, arith}
 use Rattle.std.proofs.lemmas.List.{drop_all}
 use Rattle.st_run.specs.declared.answer.Answer.{Answer}
 use Rattle.st_run.specs.Answers.{bytes_answer}
-use Rattle.st_run.proofs.AnswerLaws.{usage_answered, too_large_answered, too_large_is, bytes_answered, of_replay, of_many_bytes, words_answer, replayed_answer}
+use Rattle.st_run.specs.Promised.{IsPromised}
+use Rattle.st_run.proofs.AnswerLaws.{usage_answered, never_ok_usage, never_ok_too_large, too_large_answered, too_large_is, bytes_answered, of_replay, of_many_bytes, words_answer, replayed_answer}
 use Rattle.st_run.proofs.program.answer.Goals as goal
 
 pub returns-then-not-is_replay-clause-answers : goal.returns-then-not-is_replay-clause-answers
@@ -16,10 +17,10 @@ pub returns-in_ok-bytes_answer-in-Ok-clause-told : goal.returns-in_ok-bytes_answ
 returns-in_ok-bytes_answer-in-Ok-clause-told g c = λ answer is.
     let test = sym c.is_replay.ensures ∙ c.if-not-is_replay.false in
     replayed_answer _ _ answer c.in_ok-bytes_answer-in-Ok.field-0 test is
-    (λ input told. c.in_ok-bytes_answer-in-Ok.ensures ∙ (ap bytes_answer (c.as_slice.ensures ∙ (c.in-Ok.ensures.told input told).0) ∙ sym (of_replay _ input test)))
+    (λ input told. c.in_ok-bytes_answer-in-Ok.ensures.answer ∙ (ap bytes_answer (c.as_slice.ensures ∙ (c.in-Ok.ensures.told input told).0) ∙ sym (of_replay _ input test)))
 
 pub returns-in_ok-bytes_answer-in-Ok-clause-answers : goal.returns-in_ok-bytes_answer-in-Ok-clause-answers
-returns-in_ok-bytes_answer-in-Ok-clause-answers g c = rw c.in_ok-bytes_answer-in-Ok.ensures (bytes_answered c.as_slice.result.now)
+returns-in_ok-bytes_answer-in-Ok-clause-answers g c = rw c.in_ok-bytes_answer-in-Ok.ensures.answer (bytes_answered c.as_slice.result.now)
 
 pub returns-in_ok-too_large-in-Err-TooLong-clause-told : goal.returns-in_ok-too_large-in-Err-TooLong-clause-told
 returns-in_ok-too_large-in-Err-TooLong-clause-told g c = λ answer is.
@@ -40,3 +41,13 @@ returns-in_ok-too_large-in-Err-TooLong-clause-rest g c = λ test input told. (rw
 
 pub returns-in_ok-too_large-in-Err-TooLong-clause-whole : goal.returns-in_ok-too_large-in-Err-TooLong-clause-whole
 returns-in_ok-too_large-in-Err-TooLong-clause-whole g c = λ other. absurd (other (ap (λ (a : Answer). a.status) c.in_ok-too_large-in-Err-TooLong.ensures ∙ too_large_is))
+
+pub returns-then-not-is_replay-clause-promised : goal.returns-then-not-is_replay-clause-promised
+returns-then-not-is_replay-clause-promised g c = λ bytes told ok. absurd (never_ok_usage _ c.in_ok-usage.ensures ok)
+
+pub returns-in_ok-bytes_answer-in-Ok-clause-promised : goal.returns-in_ok-bytes_answer-in-Ok-clause-promised
+returns-in_ok-bytes_answer-in-Ok-clause-promised g c =
+    λ bytes told ok. subst IsPromised (c.as_slice.ensures ∙ (c.in-Ok.ensures.told bytes told).0) (c.in_ok-bytes_answer-in-Ok.ensures.promised ok)
+
+pub returns-in_ok-too_large-in-Err-TooLong-clause-promised : goal.returns-in_ok-too_large-in-Err-TooLong-clause-promised
+returns-in_ok-too_large-in-Err-TooLong-clause-promised g c = λ bytes told ok. absurd (never_ok_too_large _ c.in_ok-too_large-in-Err-TooLong.ensures ok)

@@ -1,0 +1,8 @@
+-- Lemmas.
+pub mod ChoiceLaws
+pub mod StateLaws
+pub mod PartLaws
+pub mod OtherPartLaws
+pub mod DutyLaws
+pub mod HandedLaws
+pub mod WorldLaws

@@ -1,0 +1,440 @@
+-- In a world of honest lines all values come from the updates that its clients handed out.
+use Rattle.std.proofs.Common.{◌≡◌, ℕ, ◌+◌, ◌-◌, Bool, true, false, IsTrue, cond, zero, suc, nat_eq, List, [], ◌∷◌, ◌++◌, refl, sym, subst, arith}
+use Rattle.std.specs.Prelude.{◌&&◌, Option, Some, None, is_some, nat_le, slice_get}
+use Rattle.std.specs.Option.{IfSome}
+use Rattle.std.specs.List.{AllByRecursion as Each, All, Contains}
+use Rattle.std.proofs.lemmas.List.Elements.{All-from_recursion, recursion_from_All, All-weaker, All-contains}
+use Rattle.st_words.specs.declared.ids.Who.{Who}
+use Rattle.st_words.specs.declared.value.Update.{Update}
+use Rattle.st_words.specs.declared.value.Value.{Value}
+use Rattle.st_words.specs.declared.value.Value.TheVariants as values
+use Rattle.st_words.specs.declared.statement.Statement.{Statement}
+use Rattle.st_words.specs.declared.statement.Statement.TheVariants.{Reply, ClientUpdate}
+use Rattle.st_seal.specs.declared.quorum.Signed.{Signed}
+use Rattle.st_message.specs.declared.message.Message.{Message}
+use Rattle.st_message.specs.declared.message.Message.TheVariants as messages
+use Rattle.st_message.specs.declared.event.Outcome.TheVariants.{Ignored}
+use Rattle.st_message.specs.declared.event.Output.{Output}
+use Rattle.st_message.specs.declared.event.Plan.{Plan}
+use Rattle.st_message.specs.declared.event.Scope.TheVariants as scopes
+use Rattle.st_message.specs.declared.change.Change.{Change}
+use Rattle.st_message.specs.declared.change.Change.TheVariants.{Executed}
+use Rattle.st_message.specs.declared.made.MadeSeal.{MadeSeal}
+use Rattle.st_message.specs.declared.reason.Reason.TheVariants.{Unknown, BadSeal}
+use Rattle.st_schedule.specs.declared.line.Dest.{Dest}
+use Rattle.st_schedule.specs.declared.line.Dest.TheVariants as dests
+use Rattle.st_schedule.specs.declared.line.Line.{Line}
+use Rattle.st_schedule.specs.declared.line.Line.TheVariants as lines
+use Rattle.st_schedule.specs.declared.done.Done.TheVariants as done
+use Rattle.st_protocol.specs.Words.{Bytes, server_at, client_at, an_update}
+use Rattle.st_protocol.specs.Keeping.{given, joined}
+use Rattle.st_protocol.specs.Questions.{values_by, executed_in, executed_values}
+use Rattle.st_protocol.specs.Duty.{Event, Deliver, Tick, Reading, Faulty, Clean}
+use Rattle.st_protocol.specs.World.{Formats, passed, Deployment, Fault, BadReference, Stand, Running, Stopped, Full, Node, Pair, Answered, Customer, World, fresh_node, empty, is_nil, handed, Stepped, stepped, with_node, with_customer, with_waiting, ends, hands, bad_seal, with_known, with_seals, read_known, reads, seat_of, dests_of, sends_to, notes_seal, hands_one, hands_out, settled, is_full_by, is_stopped_by, stands_full, stands_stopped, comes_to, has_handed, pen_at, plan_at, by_stand, serves, with_reply, answered, awaits, on_checked_reply, on_reply, client_takes, delivers}
+use Rattle.st_protocol.specs.Schedule.{is_built_line, is_pair, without, drops, Flowing, counts, flows_first, flows, submits, set_to_stop, timeout_event, restarted, is_reference, goes, step, goes_on, steps}
+use Rattle.st_protocol.specs.World.{same_dest}
+use Rattle.st_origins.specs.Passes.{UpdatePasses, MessagePasses, ReadingPasses, EventPasses, ChangePasses, HeardPasses, OutputPasses, ListsPass, PlanPasses}
+use Rattle.st_origins.specs.Origins.{IsHanded, comes_from_client, ReadsWhatIsSent, is_honest_line}
+use Rattle.st_origins.proofs.ChoiceLaws.{either, chosen, chosen_any, either_has, append_all, joined_all, flat_map_all, found_has}
+use Rattle.st_origins.proofs.DutyLaws.{duty_passes}
+use Rattle.st_origins.proofs.HandedLaws.{handed_stays, handed_now}
+
+-- all values that a server's node holds
+pub record NodePasses (test : Value → Bool) (node : Node) : Type 0 where
+  pub bodies : Each (Each (ChangePasses test)) node.bodies
+  pub heard : Each (HeardPasses test) node.heard
+  pub apart : IfSome node.apart (Each (ChangePasses test))
+
+-- Each values that a world's servers hold, and all that were sent, pass the test.
+pub record WorldPasses {Wire : Type 0} (d : Deployment Wire) (test : Value → Bool) (world : World Wire) : Type 0 where
+  pub nodes : (site index : ℕ) → NodePasses test (world.nodes site index)
+  pub sent : Each (λ wire. ReadingPasses test (d.formats.read wire)) world.sent
+
+module _ {Wire : Type 0} (d : Deployment Wire) (test : Value → Bool) where
+  -- every update that was handed out passes the test
+  abbrev pub Covers : List MadeSeal → Type 0
+  Covers made = (u : Update) → IsHanded made u → UpdatePasses test u
+
+  -- Where every update that was handed out passes the test, all values do.
+  abbrev pub Passing : World Wire → Type 0
+  Passing world = Covers world.made → WorldPasses d test world
+
+  -- so after an event
+  abbrev pub PassingAfter : Stepped Wire → Type 0
+  PassingAfter st = Passing st.world
+
+  -- what is on its way is read as a message whose values pass
+  abbrev pub WirePasses : Wire → Type 0
+  WirePasses wire = ReadingPasses test (d.formats.read wire)
+
+  -- ---- one server
+
+  -- the server after a plan that is handed out
+  settled_passes : (node : Node) (plan : Plan) → NodePasses test node → PlanPasses test plan → NodePasses test (settled d node plan)
+  settled_passes node plan n p =
+      record {
+        bodies =
+            either (Each (Each (ChangePasses test))) (is_nil plan.changes) node.bodies (node.bodies ++ plan.changes ∷ []) n.bodies
+            (append_all (Each (ChangePasses test)) node.bodies (plan.changes ∷ []) n.bodies (p.changes, tt));
+        heard = append_all (HeardPasses test) node.heard plan.heard n.heard p.heard;
+        apart = tt;
+      }
+
+  -- whose journal is full
+  full_passes : (node : Node) → NodePasses test node → NodePasses test (stands_full d node)
+  full_passes node n = record { bodies = n.bodies; heard = n.heard; apart = tt }
+
+  -- that stopped
+  stopped_passes : (node : Node) (changes : List Change) → NodePasses test node → Each (ChangePasses test) changes → NodePasses test (stands_stopped d node changes)
+  stopped_passes node changes n h =
+      record { bodies = n.bodies; heard = n.heard; apart = either_has (Each (ChangePasses test)) (nat_eq node.stop 4) (Some changes) None h tt }
+
+  -- that is set to stop
+  stop_passes : (node : Node) (call : ℕ) → NodePasses test node → NodePasses test (set_to_stop node call)
+  stop_passes node call n = record { bodies = n.bodies; heard = n.heard; apart = n.apart }
+
+  -- that starts again
+  restarted_passes : (node : Node) (kept : Bool) → NodePasses test node → NodePasses test (restarted d node kept)
+  restarted_passes node kept n =
+      chosen (Each (ChangePasses test)) (NodePasses test) (cond kept node.apart None)
+      (record { bodies = node.bodies; heard = []; stand = Running; stop = 0; apart = None; bytes = node.bytes })
+      (λ changes. record { bodies = node.bodies ++ changes ∷ []; heard = []; stand = Running; stop = 0; apart = None; bytes = node.bytes + d.formats.body_size changes })
+      (either_has (Each (ChangePasses test)) kept node.apart None n.apart tt)
+      (record { bodies = n.bodies; heard = tt; apart = tt })
+      (λ changes h. record { bodies = append_all (Each (ChangePasses test)) node.bodies (changes ∷ []) n.bodies (h, tt); heard = tt; apart = tt })
+
+  -- ---- the small changes of a world
+
+  -- a server is changed
+  node_passes : (world : World Wire) (site index : ℕ) (node : Node) → NodePasses test node → WorldPasses d test world → WorldPasses d test (with_node world site index node)
+  unfolding with_node
+  node_passes world site index node n w =
+      record { nodes = λ s i. either (NodePasses test) (nat_eq site s && nat_eq index i) node (world.nodes s i) n (w.nodes s i); sent = w.sent }
+
+  -- a server is changed, and what it holds is known where every update that was handed out passes
+  node_passing : (world : World Wire) (site index : ℕ) (node : Node) → (Covers world.made → NodePasses test node) → Passing world → Passing (with_node world site index node)
+  unfolding with_node
+  node_passing world site index node n w covers = node_passes world site index node (n covers) (w covers)
+
+  -- a client is changed
+  customer_passing : (world : World Wire) (client : ℕ) (customer : Customer) → Passing world → Passing (with_customer world client customer)
+  unfolding with_customer
+  customer_passing world client customer w covers = let at : WorldPasses d test world = w covers in record { nodes = at.nodes; sent = at.sent }
+
+  -- other pairs wait
+  waiting_passing : (world : World Wire) (pairs : List Pair) → Passing world → Passing (with_waiting world pairs)
+  unfolding with_waiting
+  waiting_passing world pairs w covers = let at : WorldPasses d test world = w covers in record { nodes = at.nodes; sent = at.sent }
+
+  -- the world ends
+  ends_passing : (world : World Wire) (fault : Option Fault) → Passing world → Passing (ends world fault)
+  unfolding ends
+  ends_passing world fault w covers = let at : WorldPasses d test world = w covers in record { nodes = at.nodes; sent = at.sent }
+
+  -- what is handed out covers what was before
+  covers_before : (world : World Wire) (who : Who) (leaf : ℕ) (s : Statement) → Covers (hands world who leaf s).made → Covers world.made
+  covers_before world who leaf s covers u h = covers u (handed_stays world who leaf s (client_at u.client.0) (u.time - 1) (ClientUpdate u) h)
+
+  -- a seal is handed out
+  hands_passing : (world : World Wire) (who : Who) (leaf : ℕ) (s : Statement) → Passing world → Passing (hands world who leaf s)
+  unfolding hands
+  hands_passing world who leaf s w covers =
+      let at : WorldPasses d test world = w (covers_before world who leaf s covers) in record { nodes = at.nodes; sent = at.sent }
+
+  -- a message is sent
+  sends_passing : (world : World Wire) (wire : Wire) (to : List Dest) → (Covers world.made → WirePasses wire) → Passing world → Passing (sends_to d world wire to)
+  unfolding sends_to
+  sends_passing world wire to m w covers =
+      let at : WorldPasses d test world = w covers in
+      record { nodes = at.nodes; sent = append_all WirePasses world.sent (wire ∷ []) at.sent (m covers, tt) }
+
+  module _ (same : ReadsWhatIsSent d) where
+    -- ---- a server's messages
+
+    -- a message that is sent
+    encode_passes : (m : Message) → MessagePasses test m → WirePasses (d.formats.encode m)
+    encode_passes m h = by (d.formats.read (d.formats.encode m)) refl
+      where
+        by : (r : Reading) → d.formats.read (d.formats.encode m) ≡ r → ReadingPasses test r
+        by (Faulty reason) e = tt
+        by (Clean n) e = subst (MessagePasses test) (sym (same.same m n e)) h
+
+    -- what is handed out covers what was before a server's own seal
+    notes_covers : (site index : ℕ) (world : World Wire) (o : Output) → Covers (notes_seal d site index world o).made → Covers world.made
+    unfolding notes_seal
+    notes_covers site index world o = by o.leaf (handed site o.message)
+      where
+        by : (leaf : Option ℕ) (x : Option Statement) → Covers (given leaf world (λ n. given x world (λ s. hands world (server_at site index) n s))).made → Covers world.made
+        by None x covers = covers
+        by (Some n) None covers = covers
+        by (Some n) (Some s) covers = covers_before world (server_at site index) n s covers
+
+    -- a server's own seal is noted
+    notes_passing : (site index : ℕ) (world : World Wire) (o : Output) → Passing world → Passing (notes_seal d site index world o)
+    unfolding notes_seal
+    notes_passing site index world o w = by o.leaf (handed site o.message)
+      where
+        by : (leaf : Option ℕ) (x : Option Statement) → Passing (given leaf world (λ n. given x world (λ s. hands world (server_at site index) n s)))
+        by None x = w
+        by (Some n) None = w
+        by (Some n) (Some s) = hands_passing world (server_at site index) n s w
+
+    -- so before one message
+    one_covers : (site index : ℕ) (world : World Wire) (o : Output) → Covers (hands_one d site index world o).made → Covers world.made
+    unfolding hands_one sends_to
+    one_covers site index world o covers = notes_covers site index world o covers
+
+    -- one message of a server's is handed out
+    one_passing : (site index : ℕ) (world : World Wire) (o : Output) → (Covers world.made → OutputPasses test o) → Passing world → Passing (hands_one d site index world o)
+    unfolding hands_one
+    one_passing site index world o h w =
+        sends_passing (notes_seal d site index world o) (d.formats.encode o.message) (dests_of d o.to)
+        (λ covers. encode_passes o.message (h (notes_covers site index world o covers))) (notes_passing site index world o w)
+
+    -- messages of a server's are handed out
+    out_passing : (site index : ℕ) (world : World Wire) (outputs : List Output) → (Covers world.made → Each (OutputPasses test) outputs) → Passing world →
+        Passing (hands_out d site index world outputs)
+    out_passing site index world [] h w = w
+    out_passing site index world (o ∷ os) h w =
+        out_passing site index (hands_one d site index world o) os (λ covers. (h (one_covers site index world o covers)).1)
+        (one_passing site index world o (λ covers. (h covers).0) w)
+
+    -- ---- a server's event
+
+    -- a plan is written and handed out
+    comes_passing : (world : World Wire) (site index : ℕ) (plan : Plan) → (Covers world.made → PlanPasses test plan) → Passing world → PassingAfter (comes_to d world site index plan)
+    unfolding comes_to with_node
+    comes_passing world site index plan p w =
+        let node : Node = world.nodes site index in
+        either PassingAfter (is_full_by d node plan) (stepped (with_node world site index (stands_full d node)) done.Full) _
+        (node_passing world site index (stands_full d node) (λ covers. full_passes node ((w covers).nodes site index)) w)
+        (either PassingAfter (is_stopped_by d node plan) (stepped (with_node world site index (stands_stopped d node plan.changes)) done.Stopped)
+        (stepped (hands_out d site index (with_node world site index (settled d node plan)) plan.outputs) (done.Outcome plan.outcome))
+        (node_passing world site index (stands_stopped d node plan.changes) (λ covers. stopped_passes node plan.changes ((w covers).nodes site index) (p covers).changes) w)
+        (out_passing site index (with_node world site index (settled d node plan)) plan.outputs (λ covers. (p covers).outputs)
+        (node_passing world site index (settled d node plan) (λ covers. settled_passes node plan ((w covers).nodes site index) (p covers)) w)))
+
+    module _ (noop : IsTrue (test values.Noop)) where
+      -- an event of a server
+      serves_passing : (world : World Wire) (site index : ℕ) (event : Event Wire) → (Covers world.made → EventPasses test (reads d) event) → Passing world →
+          PassingAfter (serves d world site index event)
+      unfolding serves
+      serves_passing world site index event e w =
+          either PassingAfter (d.faulty site index) (stepped world done.Faulty) _ w (by (world.nodes site index).stand)
+        where
+          -- the server's plan
+          plan_passes : Covers world.made → PlanPasses test (plan_at d world site index event)
+          plan_passes covers =
+              let node : NodePasses test (world.nodes site index) = (w covers).nodes site index in
+              duty_passes test noop (reads d) (pen_at d site index) (seat_of d site index) (world.nodes site index).bodies (world.nodes site index).heard event
+              (record { changes = node.bodies; messages = node.heard }) (e covers)
+
+          by : (stand : Stand) → PassingAfter (by_stand d world site index event stand)
+          by Running = comes_passing world site index (plan_at d world site index event) plan_passes w
+          by Stopped = w
+          by Full = w
+
+      -- ---- a delivery
+
+      -- a message that names what isn't of the deployment
+      known_passes : (r : Reading) → ReadingPasses test r → ReadingPasses test (with_known d r)
+      known_passes (Faulty reason) h = tt
+      known_passes (Clean m) h = either (ReadingPasses test) (d.formats.knows m) (Clean m) (Faulty Unknown) h tt
+
+      -- a message with a seal that doesn't check
+      seals_pass : (r : Reading) → ReadingPasses test r → ReadingPasses test (with_seals d r)
+      seals_pass (Faulty reason) h = tt
+      seals_pass (Clean m) h = chosen_any (ReadingPasses test) (bad_seal d m) (Clean m) (λ place. Faulty (BadSeal place)) h (λ place. tt)
+
+      -- a client's reply
+      checked_passing : (world : World Wire) (client : ℕ) (customer : Customer) (site index time : ℕ) (a : Answered) → Passing world →
+          PassingAfter (on_checked_reply d world client customer site index time a)
+      unfolding on_checked_reply
+      checked_passing world client customer site index time a w =
+          either PassingAfter (awaits d customer time) _ _
+          (either PassingAfter (is_some (customer.replies site index)) _ _ w (customer_passing world client (answered d (with_reply d customer site index a) site a) w))
+          w
+
+      -- a Reply at a client
+      reply_passing : (world : World Wire) (client : ℕ) (m : Message) (s : Statement) (signed : Signed) → Passing world → PassingAfter (on_reply d world client m s signed)
+      reply_passing world client m (Reply site to time number result) signed w =
+          either PassingAfter (nat_eq client to.0) _ _
+          (chosen_any PassingAfter (bad_seal d m) _ (λ place. stepped world (done.Outcome (Ignored (BadSeal place))))
+          (checked_passing world client (world.customers client) site.0 signed.index time (record { number = number.0; result = result }) w) (λ place. w))
+          w
+      reply_passing world client m _ signed w = w
+
+      -- a message at a client
+      client_passing : (world : World Wire) (client : ℕ) (r : Reading) → Passing world → PassingAfter (client_takes d world client r)
+      client_passing world client (Faulty reason) w = w
+      client_passing world client (Clean (messages.Reply s signed)) w = reply_passing world client (messages.Reply s signed) s signed w
+      client_passing world client (Clean _) w = w
+
+      -- a message is delivered
+      delivers_passing : (world : World Wire) (to : Dest) (wire : Wire) → (Covers world.made → WirePasses wire) → Passing world → PassingAfter (delivers d world to wire)
+      unfolding delivers
+      delivers_passing world (dests.Server server) wire m w =
+          serves_passing world server.site server.index (Deliver wire)
+          (λ covers. seals_pass (with_known d (d.formats.read wire)) (known_passes (d.formats.read wire) (m covers))) w
+      delivers_passing world (dests.Client client) wire m w = client_passing world client.0 (read_known d wire) w
+
+      -- a message that was sent
+      sent_passes : (sent : List Wire) (n : ℕ) (wire : Wire) → slice_get sent n ≡ Some wire → Each WirePasses sent → WirePasses wire
+      sent_passes sent n wire e h = subst (λ (x : Option Wire). IfSome x WirePasses) e (found_has WirePasses sent n h)
+
+      -- a message that was sent is delivered, with other pairs waiting
+      sent_passing : (world : World Wire) (pairs : List Pair) (n : ℕ) (to : Dest) (wire : Wire) → slice_get world.sent n ≡ Some wire → Passing world →
+          PassingAfter (delivers d (with_waiting world pairs) to wire)
+      unfolding with_waiting
+      sent_passing world pairs n to wire e w =
+          delivers_passing (with_waiting world pairs) to wire (λ covers. sent_passes world.sent n wire e (w covers).sent) (waiting_passing world pairs w)
+
+      -- ---- the lines
+
+      -- the oldest pair is delivered
+      first_passing : (x : Flowing Wire) (pairs : List Pair) → Passing x.world → Passing (flows_first d x pairs).world
+      unfolding flows_first
+      first_passing x [] w = w
+      first_passing x (p ∷ ps) w = by (slice_get x.world.sent p.message) refl
+        where
+          by : (wire : Option Wire) → slice_get x.world.sent p.message ≡ wire → Passing (given wire x (λ sent. counts d x (delivers d (with_waiting x.world ps) p.to sent))).world
+          by None e = w
+          by (Some sent) e = sent_passing x.world ps p.message p.to sent e w
+
+      -- a flow
+      flows_passing : (k : ℕ) (x : Flowing Wire) → Passing x.world → Passing (flows d k x).world
+      unfolding flows
+      flows_passing zero x w = w
+      flows_passing (suc k) x w = flows_passing k (flows_first d x x.world.waiting) (first_passing x x.world.waiting w)
+
+      -- a client's update
+      submits_passing : (world : World Wire) (client : ℕ) (op : Bytes) → Passing world → PassingAfter (submits d world client op)
+      unfolding submits
+      submits_passing world client op w =
+          let used : ℕ = (world.customers client).time in
+          let update : Update = an_update client (used + 1) op in
+          let waits : Customer = record { time = used + 1; waits = true; replies = λ s i. None; result = None } in
+          let asks : World Wire = with_customer world client waits in
+          let next : used + 1 - 1 ≡ used = omega arith in
+          either PassingAfter (nat_le d.capacity used) _ _ w
+          (sends_passing (hands asks (client_at client) used (ClientUpdate update))
+          (d.formats.encode (messages.Update update (d.formats.seal (client_at client) used (ClientUpdate update)))) (dests_of d scopes.All)
+          (λ covers.
+          encode_passes (messages.Update update (d.formats.seal (client_at client) used (ClientUpdate update)))
+          (covers update
+          (subst (λ leaf. IsTrue (has_handed (hands asks (client_at client) used (ClientUpdate update)).made (client_at client) leaf (ClientUpdate update))) (sym next)
+          (handed_now asks (client_at client) used (ClientUpdate update)))))
+          (hands_passing asks (client_at client) used (ClientUpdate update) (customer_passing world client waits w)))
+
+      -- a timeout
+      timeout_passes : (global : Bool) → EventPasses test (reads d) (timeout_event global)
+      timeout_passes false = tt
+      timeout_passes true = tt
+
+      -- lost pairs
+      drops_passing : (world : World Wire) (lost : Pair → Bool) → Passing world → PassingAfter (drops d world lost)
+      unfolding drops
+      drops_passing world lost w = waiting_passing world (without lost world.waiting) w
+
+      -- a line
+      goes_passing : (world : World Wire) (line : Line) → is_honest_line line ≡ true → Passing world → PassingAfter (goes d world line)
+      goes_passing world (lines.Client client op) honest w = submits_passing world client.0 op w
+      goes_passing world (lines.Deliver m to) honest w = by (slice_get world.sent m) refl
+        where
+          by : (x : Option Wire) → slice_get world.sent m ≡ x →
+              PassingAfter (given x (stepped world (done.Dropped 0)) (λ wire. delivers d (with_waiting world (without (is_pair m to) world.waiting)) to wire))
+          by None e = w
+          by (Some wire) e = sent_passing world (without (is_pair m to) world.waiting) m to wire e w
+      goes_passing world (lines.Drop m to) honest w = drops_passing world (is_pair m to) w
+      goes_passing world (lines.Lose to) honest w = drops_passing world (λ p. same_dest p.to to) w
+      goes_passing world (lines.Flow k) honest w = flows_passing k (record { world = world; pairs = 0; did = 0; ignored = 0 }) w
+      goes_passing world (lines.Timeout server global) honest w =
+          serves_passing world server.site server.index (timeout_event global) (λ covers. timeout_passes global) w
+      goes_passing world (lines.Tick server) honest w = serves_passing world server.site server.index Tick (λ covers. tt) w
+      goes_passing world (lines.Stop server call) honest w =
+          node_passing world server.site server.index (set_to_stop (world.nodes server.site server.index) call)
+          (λ covers. stop_passes (world.nodes server.site server.index) call ((w covers).nodes server.site server.index)) w
+      goes_passing world (lines.Restart server kept) honest w =
+          node_passing world server.site server.index (restarted d (world.nodes server.site server.index) kept)
+          (λ covers. restarted_passes (world.nodes server.site server.index) kept ((w covers).nodes server.site server.index)) w
+      goes_passing world (lines.Seal server s) honest w = absurd (let no : false ≡ true = honest in cc)
+      goes_passing world (lines.Raw to bytes) honest w = absurd (let no : false ≡ true = honest in cc)
+      goes_passing world (lines.Show m) honest w =
+          chosen_any PassingAfter (slice_get world.sent m) (stepped world (done.Dropped 0)) (λ wire. stepped world (done.Shown (d.formats.bytes wire))) w (λ wire. w)
+
+      -- a line, whether or not what it names is there
+      step_passing : (world : World Wire) (line : Line) → is_honest_line line ≡ true → Passing world → PassingAfter (step d world line)
+      unfolding step
+      step_passing world line honest w =
+          either PassingAfter (is_reference d world line) (goes d world line) (stepped (ends world (Some BadReference)) (done.Dropped 0))
+          (goes_passing world line honest w) (ends_passing world (Some BadReference) w)
+
+      -- lines in order
+      steps_passing : (world : World Wire) (all : List Line) → Each (λ line. is_honest_line line ≡ true) all → Passing world → Passing (steps d world all)
+      steps_passing world [] honest w = w
+      steps_passing world (line ∷ more) honest w = steps_passing (goes_on d world line) more honest.1 (step_passing world line honest.0 w)
+
+      -- before the first line
+      empty_passing : Passing empty
+      unfolding empty fresh_node
+      empty_passing covers = record { nodes = λ site index. record { bodies = tt; heard = tt; apart = tt }; sent = tt }
+
+      -- In the world of these lines.
+      pub world_passing : (all : List Line) → Each (λ line. is_honest_line line ≡ true) all → Passing (steps d empty all)
+      world_passing all honest = steps_passing empty all honest empty_passing
+
+-- ---- executed values
+
+module _ (test : Value → Bool) where
+  -- the value that a change executes
+  values_by_pass : (x : Change) → ChangePasses test x → Each (λ v. IsTrue (test v)) (values_by x)
+  values_by_pass (Executed number p) h = (h, tt)
+  values_by_pass _ h = tt
+
+  -- Each values that bodies execute.
+  pub executed_pass : (bodies : List (List Change)) → Each (Each (ChangePasses test)) bodies → Each (λ v. IsTrue (test v)) (executed_values bodies)
+  unfolding executed_values executed_in
+  executed_pass bodies h =
+      flat_map_all (λ v. IsTrue (test v)) (ChangePasses test) values_by values_by_pass (joined bodies) (joined_all (ChangePasses test) bodies h)
+
+-- ---- the laws
+
+-- a line that is built is honest
+built_is_honest : (line : Line) → is_built_line line ≡ true → is_honest_line line ≡ true
+built_is_honest (lines.Client client op) built = refl
+built_is_honest (lines.Flow k) built = refl
+built_is_honest (lines.Show m) built = refl
+built_is_honest _ built = absurd (let no : false ≡ true = built in cc)
+
+-- So are all.
+pub built_are_honest : (all : List Line) → All (λ line. is_built_line line ≡ true) all → All (λ line. is_honest_line line ≡ true) all
+built_are_honest all built = All-weaker (λ line. is_built_line line ≡ true) (λ line. is_honest_line line ≡ true) built_is_honest all built
+
+module _ {Wire : Type 0} (d : Deployment Wire) (all : List Line) (same : ReadsWhatIsSent d) (honest : All (λ line. is_honest_line line ≡ true) all) where
+  -- the test of what was handed out in the end
+  abbrev handed_in_the_end : Value → Bool
+  handed_in_the_end = comes_from_client (steps d empty all).made
+
+  -- all values in the world
+  world_passes : WorldPasses d handed_in_the_end (steps d empty all)
+  world_passes = world_passing d handed_in_the_end same refl all (recursion_from_All (λ line. is_honest_line line ≡ true) all honest) (λ u h. h)
+
+  -- Each that a server recorded and heard.
+  pub lists_handed : (site index : ℕ) → ListsPass handed_in_the_end ((steps d empty all).nodes site index).bodies ((steps d empty all).nodes site index).heard
+  lists_handed site index = let node : NodePasses handed_in_the_end ((steps d empty all).nodes site index) = world_passes.nodes site index in record { changes = node.bodies; messages = node.heard }
+
+  -- Each that was sent.
+  pub sent_handed : All (λ wire. ReadingPasses handed_in_the_end (d.formats.read wire)) (steps d empty all).sent
+  sent_handed = All-from_recursion (λ wire. ReadingPasses handed_in_the_end (d.formats.read wire)) (steps d empty all).sent world_passes.sent
+
+  -- Each updates in a server's log.
+  pub executed_handed : (site index : ℕ) (u : Update) → Contains (executed_values ((steps d empty all).nodes site index).bodies) (values.Update u) → IsHanded (steps d empty all).made u
+  executed_handed site index u found =
+      let log : List Value = executed_values ((steps d empty all).nodes site index).bodies in
+      All-contains (λ v. IsTrue (handed_in_the_end v)) log (values.Update u)
+      (All-from_recursion (λ v. IsTrue (handed_in_the_end v)) log (executed_pass handed_in_the_end ((steps d empty all).nodes site index).bodies (world_passes.nodes site index).bodies)) found
+
+-- Messages that are passed as they are.
+pub passed_reads_same : (d : Deployment Message) (seal : Who → ℕ → Statement → Bytes) (knows : Message → Bool) → d.formats ≡ record (passed seal) { knows = knows } → ReadsWhatIsSent d
+passed_reads_same d seal knows e =
+    subst (λ (formats : Formats Message). ReadsWhatIsSent (record d { formats = formats })) (sym e) (record { same = λ m n is. let clean : Clean m ≡ Clean n = is in cc })

@@ -1,0 +1,3 @@
+-- Lemmas.
+pub mod OnceLaws
+pub mod PromiseLaws

@@ -1,0 +1,6 @@
+-- Lemmas.
+pub mod LineLaws
+pub mod LogLaws
+pub mod RowLaws
+pub mod SizeLaws
+pub mod ReplayLaws

@@ -1,0 +1,4 @@
+-- The definitions that contracts cite.
+pub mod Lines
+pub mod Log
+pub mod Replay

@@ -1,0 +1,72 @@
+ghost use Rattle.std.specs.Prelude.{◌≡◌, List, ◌+◌, ◌≤◌, ◌<◌, ◌^◌, length, IfOk, IsOkUnless};
+ghost use Rattle.std.specs.List.{All};
+ghost use Rattle.st_report.specs.Text.{report};
+ghost use Rattle.st_schedule.specs.Ranges.{IsBuilt};
+ghost use Rattle.st_config.specs.Taken.{IsTaken};
+ghost use Rattle.st_input.specs.declared.input.InputLine.{InputLine};
+ghost use Rattle.st_replay.specs.Lines.{IsReplayed, rows_in};
+ghost use Rattle.st_replay.specs.Replay.{IsReplay, replay_of};
+ghost use Rattle.st_replay.specs.declared.replayed.ReplayError.TheVariants as errors;
+
+use crate::lines::{Replay, replay_lines};
+use crate::rows::rows_of;
+use st_fields::{Bytes, WordsError};
+use st_input::Input;
+use st_report::{ReportError, report_text};
+use st_words::Deployment;
+use st_world::WorldError;
+use std::alloc::Global;
+
+/// Why an input has no report.
+#[derive(Clone, Copy, Debug, PartialEq, Eq)]
+pub enum ReplayError {
+    /// A line names what does not exist.
+    BadReference,
+    /// Too many messages would be sent.
+    TooMany,
+    /// Memory was refused.
+    OutOfMemory,
+}
+
+impl From<WordsError> for ReplayError {
+    ghost from_gives = { λ _ e. e ≡ errors.OutOfMemory };
+
+    fn from(_: WordsError) -> ReplayError {
+        ReplayError::OutOfMemory
+    }
+}
+
+impl From<ReportError> for ReplayError {
+    ghost from_gives = { λ _ e. e ≡ errors.OutOfMemory };
+
+    fn from(_: ReportError) -> ReplayError {
+        ReplayError::OutOfMemory
+    }
+}
+
+/// The report of an input's world: BadReference or TooMany exactly where that world ends so.
+pub fn replay(alloc: Global, input: &Input) -> Result<Bytes, ReplayError>
+    requires taken { IsTaken input.now.deployment }
+    requires built { All (λ x. IsBuilt x.line) input.now.lines }
+    ensures replayed { IsReplay result (replay_of input.now) }
+{
+    match replay_lines(alloc, &input.deployment, &input.lines) {
+        Ok(replay) => report(alloc, &input.deployment, replay),
+        Err(WorldError::BadReference) => Err(ReplayError::BadReference),
+        Err(WorldError::TooMany) => Err(ReplayError::TooMany),
+        Err(WorldError::OutOfMemory) => Err(ReplayError::OutOfMemory),
+    }
+}
+
+// The text of the report.
+fn report(alloc: Global, d: &Deployment, replay: Replay) -> Result<Bytes, ReplayError>
+    requires sent { length replay.world.sent < 2 ^ 32 }
+    requires pairs { length replay.world.pairs < 2 ^ 32 + replay.world.head }
+    requires head { replay.world.head ≤ length replay.world.pairs }
+    ensures text { IfOk result (λ text. (lines : List InputLine) → IsReplayed replay d.now lines → text ≡ report (rows_in d.now lines)) }
+    ensures memory { IsOkUnless result errors.OutOfMemory }
+{
+    let rows = rows_of(alloc, d, replay)?;
+    let text = report_text(alloc, &rows)?;
+    Ok(text)
+}

@@ -1,0 +1,13 @@
+-- What is promised of an input's bytes where the program answers with a report.
+use Rattle.std.specs.Prelude.{◌≡◌, ℕ, List, Some}
+use Rattle.st_input.specs.declared.input.Input.{Input}
+use Rattle.st_input.specs.Input.{input_of}
+use Rattle.st_replay.specs.Lines.{events_in}
+use Rattle.st_promises.specs.Promises.{AlwaysKeepsPromises}
+
+-- The bytes are an input's, and its world keeps all promises, before the first event line and after each: agreement,
+-- each update sealed by its client and run at most once, and no next number left in hand.
+pub record IsPromised (bytes : List ℕ) : Type 0 where
+  pub input : Input
+  pub spells : input_of bytes ≡ Some input
+  pub keeps : AlwaysKeepsPromises input.deployment (events_in input.lines)
