@@ -1,3 +1,4 @@
 -- Lemmas.
 pub mod Moments
+pub mod Places
 pub mod Records

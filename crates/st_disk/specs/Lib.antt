@@ -7,4 +7,7 @@ pub mod FileRacks
 pub mod Files
 pub mod Memory
 pub mod MemoryLaws
+pub mod MemoryPlaces
+pub mod MemoryRacks
 pub mod Racks
+pub mod Worn

@@ -40,6 +40,10 @@ countdown_of d = d.countdown.left
 abbrev pub faults_of : MemoryDisk → ℕ
 faults_of d = d.countdown.faults
 
+-- the disk with its faults told: its count is 0
+abbrev pub cleared : MemoryDisk → MemoryDisk
+cleared d = record d { countdown = record d.countdown { faults = 0 } }
+
 -- one more call was made
 pub record Makes (call : Call) (old new : MemoryDisk) : Type 0 where
   pub start : start_of new ≡ start_of old

@@ -1,5 +1,5 @@
 -- Racks of disks: a place for each server that a deployment can have, 7 sites of 7 servers at most.
-use Rattle.std.specs.Prelude.{◌≡◌, ◌≤◌, ℕ, ◌+◌, ◌-◌, ◌*◌, ◌^◌, Bool, nat_lt, ◌&&◌, List, [], ◌∷◌, ◌++◌, slice_index, if◌then◌else◌, Result, Ok, Err}
+use Rattle.std.specs.Prelude.{◌≡◌, ℕ, ◌+◌, ◌-◌, ◌*◌, ◌^◌, Bool, nat_lt, ◌&&◌, List, [], ◌∷◌, ◌++◌, slice_index, if◌then◌else◌, Result, Ok, Err}
 use Rattle.st_words.specs.declared.ids.ServerId.{ServerId}
 use Rattle.st_disk.specs.declared.error.DiskError.{DiskError}
 use Rattle.st_disk.specs.declared.error.DiskError.TheVariants.{Failed, OutOfMemory}

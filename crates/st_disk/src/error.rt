@@ -3,7 +3,7 @@ ghost use Rattle.st_disk.specs.declared.error.DiskError.TheVariants as disks;
 
 use std::alloc::{AllocError, AllocFailed};
 
-/// Why a device call was not made.
+/// Why a device call failed. After Failed a write or a cut may be made all the same.
 #[derive(Clone, Copy, Debug, PartialEq, Eq)]
 pub enum DiskError {
     /// The disk failed: its count of faults rose.

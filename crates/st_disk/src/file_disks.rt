@@ -1,4 +1,4 @@
-ghost use Rattle.std.specs.Prelude.{◌≡◌, [], false, IfOk};
+ghost use Rattle.std.specs.Prelude.{◌≡◌, [], false, IsTrue, IfOk};
 ghost use Rattle.st_words.specs.declared.ids.ServerId.{ServerId};
 
 use crate::counts::{PLACES, raise};
@@ -17,9 +17,13 @@ pub struct FileDisks {
 
 impl FileDisks {
     ghost use Rattle.st_disk.specs.FileDisks.{file_faults};
+    ghost use Rattle.st_disk.specs.FileRacks.{rack_faults};
+    ghost use Rattle.st_disk.specs.Racks.{has_place};
 
     /// No fault has come yet.
-    pub fn new(rt: HostRuntime) -> FileDisks {
+    pub fn new(rt: HostRuntime) -> FileDisks
+        ensures { (who : ServerId) → IsTrue (has_place who) → rack_faults result who ≡ 0 }
+    {
         FileDisks {
             rt,
             counts: [0; PLACES],

@@ -11,6 +11,8 @@ mod error;
 mod file;
 mod file_disks;
 mod memory;
+mod memory_disks;
+mod worn;
 
 pub use disk::Disk;
 pub use disks::Disks;
@@ -18,6 +20,8 @@ pub use error::DiskError;
 pub use file::FileDisk;
 pub use file_disks::FileDisks;
 pub use memory::MemoryDisk;
+pub use memory_disks::MemoryDisks;
+pub use worn::WornDisk;
 
 #[cfg(test)]
 mod tests;

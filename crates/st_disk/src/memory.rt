@@ -1,4 +1,4 @@
-ghost use Rattle.std.specs.Prelude.{◌≡◌, ◌≤◌, ◌+◌, ◌<◌, ◌^◌, All, replicate, take, drop, min, ◌-◌, ◌++◌, ◌∷◌, [], length, reverse, if◌then◌else◌, Some, None, OnOk, OnErr, IfOk, IsOkUnless, vec_capacity};
+ghost use Rattle.std.specs.Prelude.{◌≡◌, ◌≤◌, ◌+◌, ◌<◌, ◌^◌, All, replicate, take, drop, min, ◌-◌, ◌++◌, ◌∷◌, [], length, reverse, if◌then◌else◌, Some, None, OnOk, OnErr, IfOk, IsTrue, IsOkUnless, vec_capacity};
 ghost use Rattle.st_disk.specs.declared.error.DiskError.TheVariants as disks;
 ghost use Rattle.st_disk.specs.declared.call.Call.TheVariants as made;
 ghost use Rattle.st_disk.specs.Calls.{IsKept, after, content, reach};
@@ -28,8 +28,10 @@ pub struct MemoryDisk {
 }
 
 impl MemoryDisk {
-    ghost use Rattle.st_disk.specs.Memory.{start_of, calls_of, seen_of, synced_of, image_of, countdown_of, faults_of, Makes, Stays};
+    ghost use Rattle.st_disk.specs.Memory.{start_of, calls_of, seen_of, synced_of, image_of, countdown_of, faults_of, cleared, Makes, Stays};
     ghost use Rattle.st_disk.specs.Crashes.{Only};
+    ghost use Rattle.st_disk.specs.Countdowns.{called, is_due};
+    ghost use Rattle.st_io.specs.Causes.{Rose};
 
     /// An empty disk: no call is set to fail. Takes no memory.
     pub fn new(alloc: Global) -> Result<MemoryDisk, DiskError>
@@ -100,8 +102,34 @@ impl MemoryDisk {
         }
     }
 
+    /// How many calls failed, at most 2^64-1.
+    pub(crate) fn faults(&self) -> u64
+        ensures { result ≡ faults_of self.now }
+    {
+        self.countdown.faults
+    }
+
+    /// The disk with its faults told: its count is 0.
+    pub(crate) fn cleared(self) -> MemoryDisk
+        ensures { result ≡ cleared self }
+    {
+        let mut disk = self;
+        disk.countdown.faults = 0;
+        disk
+    }
+
+    /// Counts a device call, and answers whether it is the set call.
+    pub(crate) fn fails(&mut self) -> bool
+        ensures answer { result ≡ is_due 1 (countdown_of self.old) }
+        ensures counted { self.new ≡ record self.old { countdown = called self.old.countdown } }
+        ensures later { faults_of self.old ≤ faults_of self.new }
+        ensures rises { IsTrue result → Rose (faults_of self.old) (faults_of self.new) }
+    {
+        self.countdown.fails()
+    }
+
     /// Makes a write, or nothing where memory is refused.
-    fn write(&mut self, at: u64, piece: &[u8]) -> Result<(), DiskError>
+    pub(crate) fn write(&mut self, at: u64, piece: &[u8]) -> Result<(), DiskError>
         ensures ok { OnOk result (Makes (made.Write at piece.now) self.old self.new) }
         ensures err { OnErr result (Stays self.old self.new) }
         ensures countdown { self.new.countdown ≡ self.old.countdown }
@@ -122,7 +150,7 @@ impl MemoryDisk {
     }
 
     /// Changes the size, or nothing where memory is refused.
-    fn resize(&mut self, size: u64) -> Result<(), DiskError>
+    pub(crate) fn resize(&mut self, size: u64) -> Result<(), DiskError>
         ensures ok { OnOk result (Makes (made.Cut size) self.old self.new) }
         ensures err { OnErr result (Stays self.old self.new) }
         ensures countdown { self.new.countdown ≡ self.old.countdown }

@@ -1,12 +1,13 @@
 //! Device calls together: a change of the file and the sync that brings it onto the disk, and a sync
 //! and what the file then holds.
 
-ghost use Rattle.std.specs.Prelude.{◌≡◌, ◌≤◌, List, ℕ, None, take, length, OnOk, OnErr, IfOk, if◌then◌else◌};
+ghost use Rattle.std.specs.Prelude.{◌≡◌, ◌≤◌, ◌⊎◌, List, ℕ, None, take, length, OnOk, OnErr, IfOk, if◌then◌else◌};
 ghost use Rattle.st_disk.specs.declared.error.DiskError.TheVariants as disks;
 ghost use Rattle.st_disk.specs.Files.{written, padded};
 ghost use Rattle.st_disk.specs.Crashes.{Only, LeavesOnly, HasCause};
 ghost use Rattle.st_disk.specs.Countdowns.{is_due};
 ghost use Rattle.st_journal.specs.Devices.{TornFrom, ResizedFrom, CountsCalls, IsQuiet};
+ghost use Rattle.st_journal.specs.Faults.{Unsynced, SyncedFirst};
 
 use st_disk::{Disk, DiskError};
 use std::alloc::Global;
@@ -53,6 +54,9 @@ pub(crate) fn read_synced<D: Disk>(alloc: Global, disk: &mut D) -> Result<Vec<u8
     ensures same { D.tells → D.seen disk.new ≡ D.seen disk.old }
     ensures durable { OnOk result (D.tells → Only (D.seen disk.new) (D.may_leave disk.new)) }
     ensures any_moment { D.tells → LeavesOnly D.moment D.left_since disk.old disk.new (D.may_leave disk.old) }
+    ensures synced_first { OnOk result (D.tells → SyncedFirst D.seen D.moment D.left_since D.may_leave disk.old disk.new (λ c. c ≡ D.seen disk.old)) }
+    ensures first { OnErr result (D.tells → Unsynced D.seen D.moment D.left_since D.may_leave disk.old disk.new
+        ⊎ SyncedFirst D.seen D.moment D.left_since D.may_leave disk.old disk.new (λ c. c ≡ D.seen disk.old)) }
     ensures cause { HasCause (D.faults disk.old) (D.faults disk.new) result }
     ensures unset { D.counts_down → D.countdown disk.old ≡ None → IsQuiet (D.countdown disk.new) result }
 {

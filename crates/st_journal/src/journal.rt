@@ -6,7 +6,7 @@ ghost use Rattle.st_journal.specs.declared.error.JournalError.TheVariants as jou
 ghost use Rattle.st_journal.specs.Blocks.{staged, bodies_of, IsFile, IsFaultOf, IsBeforeOrAfter};
 ghost use Rattle.st_journal.specs.Devices.{CountsCalls, IsQuiet};
 ghost use Rattle.st_journal.specs.Ready.{IsReady, IsOnDisk};
-ghost use Rattle.st_journal.specs.Faults.{Faults, IsStartFault, IsBeforeOrSame};
+ghost use Rattle.st_journal.specs.Faults.{Faults, IsStartFault, IsBeforeOrSame, LeavesInStart, bodies_read};
 
 use crate::blocks::{Bodies, read_file};
 use crate::device::{put, read_synced, shorten};
@@ -54,6 +54,11 @@ impl<D: Disk> Journal<D> {
         // A crash at any moment leaves the bodies that the file stands for or, before the first sync is done,
         // what a crash before the call could have left.
         ensures any_moment { D.tells → LeavesOnly D.moment D.left_since disk (disk_after result) (IsBeforeOrSame (D.may_leave disk) (D.seen disk)) }
+
+        // What a crash before the call could have left ends with a sync that changes nothing of the file. From
+        // then on a crash leaves the bodies that are answered, and where none are, the same file or one with
+        // the same bodies or fault. Only DiskFault and OutOfMemory may come before that sync is made.
+        ensures first_sync { D.tells → LeavesInStart D.seen D.moment D.left_since D.may_leave disk (disk_after result) (answer_of result) }
 
         ensures unchanged { IfErr result (λ e. (place : ℕ) → e.error ≡ journals.NotJournal place → D.tells
             → (D.seen e.disk ≡ D.seen disk) × Only (D.seen disk) (D.may_leave e.disk)) }
@@ -155,6 +160,7 @@ fn begin<D: Disk>(alloc: Global, disk: &mut D) -> Result<(Bodies, u64), JournalE
     ensures fault { IfErr result (λ e. D.tells → IsStartFault (bodies_of (D.seen disk.old)) e) }
     ensures unchanged { (place : ℕ) → result ≡ Err (journals.NotJournal place) → D.tells → (D.seen disk.new ≡ D.seen disk.old) × Only (D.seen disk.new) (D.may_leave disk.new) }
     ensures any_moment { D.tells → LeavesOnly D.moment D.left_since disk.old disk.new (IsBeforeOrSame (D.may_leave disk.old) (D.seen disk.old)) }
+    ensures first_sync { D.tells → LeavesInStart D.seen D.moment D.left_since D.may_leave disk.old disk.new (bodies_read result) }
     ensures later { D.faults disk.old ≤ D.faults disk.new }
     ensures cause { IfErr result (λ e. Faults e (D.faults disk.old) (D.faults disk.new)) }
     ensures unset { D.counts_down → D.countdown disk.old ≡ None → (D.countdown disk.new ≡ None) × (result ≢ Err journals.DiskFault) }

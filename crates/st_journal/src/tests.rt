@@ -1,6 +1,7 @@
 use super::*;
-use st_disk::{Disk, MemoryDisk};
+use st_disk::{Disk, MemoryDisk, WornDisk};
 use std::alloc::Global;
+use std::fmt::Debug;
 use std::test::*;
 
 type Started = (Journal<MemoryDisk>, Bodies);
@@ -78,7 +79,7 @@ fn what_stands_behind_the_gate_is_cut_off(rt: HostRuntime) -> Result<(), Fail> {
 }
 
 /// The disk after a start on it.
-fn restarted(alloc: Global, disk: MemoryDisk) -> MemoryDisk {
+fn restarted<D: Disk>(alloc: Global, disk: D) -> D {
     match Journal::start(alloc, disk, 40) {
         Ok((journal, _bodies)) => journal.into_disk(),
         Err(
@@ -90,24 +91,30 @@ fn restarted(alloc: Global, disk: MemoryDisk) -> MemoryDisk {
     }
 }
 
-/// The disk after appends of b and c behind a, and a start, where the `k`-th device call of these fails.
-fn faulted(alloc: Global, k: u32) -> Result<MemoryDisk, Fail> {
-    let (mut journal, _bodies) = started(alloc, b"")?;
-    journal.append(alloc, b"a")?;
-    journal.fail_at(k.max(1));
+/// A disk after appends of b and c to this journal, and a start.
+fn appended<D: Disk>(alloc: Global, journal: Journal<D>) -> D {
+    let mut journal = journal;
     let appended = journal.append(alloc, b"b").is_ok() && journal.append(alloc, b"c").is_ok();
     let disk = journal.into_disk();
     if appended {
-        return Ok(restarted(alloc, disk));
+        return restarted(alloc, disk);
     }
-    Ok(disk)
+    disk
 }
 
-/// How many of the bodies a, b and c are there after a crash of that disk.
-fn survivors(alloc: Global, k: u32, kept: bool) -> Result<usize, Fail> {
-    let disk = faulted(alloc, k)?;
-    let (_journal, bodies) = Journal::start(alloc, disk.crash(kept), 40)?;
+/// How many bodies a start on this disk answers.
+fn count<D: Disk + Debug>(alloc: Global, disk: D) -> Result<usize, Fail> {
+    let (_journal, bodies) = Journal::start(alloc, disk, 40)?;
     Ok(bodies.len())
+}
+
+/// How many of the bodies a, b and c are there after a crash, where the `k`-th device call of the appends
+/// of b and c behind a and of a start failed, and changed nothing.
+fn survivors(alloc: Global, k: u32, kept: bool) -> Result<usize, Fail> {
+    let (mut journal, _bodies) = started(alloc, b"")?;
+    journal.append(alloc, b"a")?;
+    journal.fail_at(k.max(1));
+    count(alloc, appended(alloc, journal).crash(kept))
 }
 
 #[test]
@@ -125,6 +132,66 @@ fn each_failing_call_leaves_a_journal(rt: HostRuntime) -> Result<(), Fail> {
         };
         assert_eq!(rt; survivors(rt.alloc(), k, false)?, lost);
         assert_eq!(rt; survivors(rt.alloc(), k, true)?, kept);
+    }
+    Ok(())
+}
+
+/// How many device calls a start on an empty disk and one append are.
+const FIRST_CALLS: u32 = 11;
+
+/// The same, where the failing call is made if it is a write or a cut.
+fn survivors_of_worn(alloc: Global, k: u32, kept: bool) -> Result<usize, Fail> {
+    let mut disk = WornDisk::new(alloc)?;
+    disk.fail_at(FIRST_CALLS.saturating_add(k));
+    let (mut journal, _bodies) = Journal::start(alloc, disk, 40)?;
+    journal.append(alloc, b"a")?;
+    count(alloc, appended(alloc, journal).crash(kept))
+}
+
+#[test]
+fn each_failing_call_that_is_made_leaves_a_journal(rt: HostRuntime) -> Result<(), Fail> {
+    for k in 1..13 {
+        let lost = match k {
+            1..=4 => 1,
+            5..=8 => 2,
+            _ => 3,
+        };
+        let kept = match k {
+            1..=2 => 1,
+            3..=6 => 2,
+            _ => 3,
+        };
+        assert_eq!(rt; survivors_of_worn(rt.alloc(), k, false)?, lost);
+        assert_eq!(rt; survivors_of_worn(rt.alloc(), k, true)?, kept);
+    }
+    Ok(())
+}
+
+/// The bodies that a start answers after a crash of that disk, one behind another.
+fn bodies_after(alloc: Global, disk: MemoryDisk, kept: bool) -> Result<Vec<u8>, Fail> {
+    let (_journal, bodies) = Journal::start(alloc, disk.crash(kept), 40)?;
+    let mut all = Vec::new(alloc);
+    for body in bodies.as_slice() {
+        all.extend_from_slice(body.as_slice())?;
+    }
+    Ok(all)
+}
+
+#[test]
+fn a_last_sync_that_fails_loses_or_keeps_the_body(rt: HostRuntime) -> Result<(), Fail> {
+    let alloc = rt.alloc();
+    for kept in [false, true] {
+        let (mut journal, _bodies) = started(alloc, b"")?;
+        journal.append(alloc, b"a")?;
+        journal.fail_at(4);
+        assert_eq!(rt; journal.append(alloc, b"b"), Err(JournalError::DiskFault));
+        let bodies = bodies_after(alloc, journal.into_disk(), kept)?;
+        let want = if kept {
+            b"ab".as_slice()
+        } else {
+            b"a".as_slice()
+        };
+        assert_eq!(rt; bodies.as_slice(), want);
     }
     Ok(())
 }
