@@ -1,10 +1,12 @@
 #!/usr/bin/env python3
 """Seals of RFC 8554 (LM-OTS, LMS, HSS) over SHA-256 by the standard's formulas, with the standard
-library alone: the values of the tests of st_lmots, st_lms and st_hss.
+library alone: the values of the tests of st_lmots, st_lms, st_hss and st_hss_seal.
 
 Where the standard leaves a choice: secrets are made from a seed (its appendix A), the randomizer of a
 leaf is C = SHA-256(05, SEED, I, q), and the second tree under leaf q of the first has
-SEED' = SHA-256(03, SEED, q) and the first 16 bytes of SHA-256(04, SEED, q) as I'.
+SEED' = SHA-256(03, SEED, q) and the first 16 bytes of SHA-256(04, SEED, q) as I'. A party's key, in a
+deployment with seed S, has SEED = SHA-256(01, S, P) and the first 16 bytes of SHA-256(02, S, P) as I; its
+bytes P are site and index, or ff and client.
 """
 
 from hashlib import sha256
@@ -124,6 +126,18 @@ class HssKey:
         return u32(1) + self.first.seal(q, second.key()) + second.key() + second.seal(leaf, message)
 
 
+def server(site, index):
+    return u8(site) + u8(index)
+
+
+def client(c):
+    return u8(0xFF) + u8(c)
+
+
+def party_key(kind, ots, levels, s, party):
+    return HssKey(kind, ots, levels, h(u8(2), s, party)[:16], h(u8(1), s, party))
+
+
 def show(name, data):
     print(name)
     for row in range(0, len(data), 12):
@@ -148,3 +162,10 @@ if __name__ == "__main__":
     show(f"SHA-256 of its seal at 31, {len(one.seal(31, TEXT))} bytes", h(one.seal(31, TEXT)))
     two = HssKey(5, 3, 2, I, SEED)
     show(f"SHA-256 of the seal of two levels at 70, {len(two.seal(70, TEXT))} bytes", h(two.seal(70, TEXT)))
+    deployment = bytes(range(32))
+    cases = [("server 1.0", server(1, 0), 1, 3), ("server 1.0", server(1, 0), 2, 70), ("client 1", client(1), 1, 31)]
+    for name, party, levels, leaf in cases:
+        key = party_key(5, 3, levels, deployment, party)
+        seal = key.seal(leaf, TEXT)
+        show(f"HSS key of {name} of the deployment, {levels} levels, types 5 and 3", key.key())
+        show(f"SHA-256 of its seal with leaf {leaf}, {len(seal)} bytes", h(seal))

@@ -1,7 +1,7 @@
 -- What is sealed checks.
-use Rattle.std.proofs.Common.{◌≡◌, ℕ, ◌/◌, ◌%◌, ◌^◌, ◌<◌, ◌≤◌, List, ◌∷◌, ◌++◌, true, length, Some, refl, ap, ◌∙◌, arith, append_assoc}
+use Rattle.std.proofs.Common.{◌≡◌, ℕ, ◌/◌, ◌%◌, ◌+◌, ◌^◌, ◌<◌, ◌≤◌, List, ◌∷◌, ◌++◌, true, length, Some, refl, ap, ◌∙◌, arith, append_assoc}
 use Rattle.std.specs.Int.{w32}
-use Rattle.std.proofs.lemmas.List.{take_at, drop_at, length-take-le}
+use Rattle.std.proofs.lemmas.List.{length-append, take_at, drop_at, length-take-le}
 use Rattle.std.proofs.lemmas.Nat.{div_below}
 use Rattle.sha2.specs.Sha256.{sha256}
 use Rattle.sha2.proofs.Facts256.{length-sha256}
@@ -17,7 +17,7 @@ use Rattle.st_lms.proofs.SealLaws.{length-lms_key, length-lms_signature, signatu
 use Rattle.st_hss.specs.declared.secret.Levels.{Levels}
 use Rattle.st_hss.specs.declared.secret.Levels.TheVariants.{One, Two}
 use Rattle.st_hss.specs.declared.secret.HssSecret.{HssSecret}
-use Rattle.st_hss.specs.Formulas.{number_of_levels, hss_key, second_secret, second_front, capacity_of, capacity_by_levels, signature_by_levels, hss_signature}
+use Rattle.st_hss.specs.Formulas.{number_of_levels, hss_key, second_secret, second_front, capacity_of, capacity_by_levels, signature_by_levels, hss_signature, length_by_levels, hss_seal_length}
 use Rattle.st_hss.specs.Checks.{is_right, both_check, checks_by_levels, hss_checks}
 
 -- the second tree's identifier has 16 bytes
@@ -84,3 +84,37 @@ sealed_by_levels Two s index message wide below =
 pub hss_sealed_checks : (s : HssSecret) (index : ℕ) (message : List ℕ) → length s.first.i ≡ 16 → index < capacity_of s → hss_checks (hss_key s) message (hss_signature s index message) ≡ true
 unfolding hss_key hss_signature
 hss_sealed_checks s index message wide below = sealed_by_levels s.levels s.first index message wide below
+
+-- ---- lengths
+
+-- a second tree's signatures are as long as the first's
+second_length : (s : LmsSecret) (q : ℕ) → lms_seal_length (second_secret s q).kind (second_secret s q).ots ≡ lms_seal_length s.kind s.ots
+unfolding second_secret
+second_length s q = refl
+
+-- what stands before the last signature of two
+length-second_front : (s : LmsSecret) (q : ℕ) → q < leaves_of s.kind → length (second_front s q) ≡ 4 + lms_seal_length s.kind s.ots + 56
+unfolding second_front
+length-second_front s q below =
+    let key : List ℕ = lms_key (second_secret s q) in
+    let own = length-lms_key (second_secret s q) (second_i s q) in
+    let first = length-lms_signature s q key below in
+    omega (arith, length-append (number w32 1 ++ lms_signature s q key) key, length-append (number w32 1) (lms_signature s q key), length-number 1, own, first)
+
+-- by the levels of the key
+length_is_by_levels : (levels : Levels) (s : LmsSecret) (index : ℕ) (message : List ℕ) → index < capacity_by_levels levels s → length (signature_by_levels levels s index message) ≡ length_by_levels levels s
+length_is_by_levels One s index message below =
+    omega (arith, length-append (number w32 0) (lms_signature s index message), length-number 0, length-lms_signature s index message below)
+length_is_by_levels Two s index message below =
+    let some : 0 < leaves_of s.kind = leaves_some s.kind in
+    let q : ℕ = index / leaves_of s.kind in
+    let leaf : ℕ = index % leaves_of s.kind in
+    let inside : leaf < leaves_of (second_secret s q).kind = rw (second_leaves s q) (let less : index % leaves_of s.kind < leaves_of s.kind = omega arith in less) in
+    let first = length-second_front s q (div_below index (leaves_of s.kind) (leaves_of s.kind) some below) in
+    let last = length-lms_signature (second_secret s q) leaf message inside in
+    omega (arith, length-append (second_front s q) (lms_signature (second_secret s q) leaf message), first, last, second_length s q)
+
+-- a signature is as long as its key's levels and types say
+pub length_of_hss_signature : (s : HssSecret) (index : ℕ) (message : List ℕ) → index < capacity_of s → length (hss_signature s index message) ≡ hss_seal_length s
+unfolding hss_signature
+length_of_hss_signature s index message below = length_is_by_levels s.levels s.first index message below

@@ -1,6 +1,6 @@
 -- HSS over SHA-256 (RFC 8554, section 6) with one or two levels of the same types, as functions on
 -- lists of bytes.
-use Rattle.std.specs.Prelude.{ℕ, ◌*◌, ◌/◌, ◌%◌, List, ◌∷◌, ◌++◌, take, ◌==◌, Option, Some, None, if◌then◌else◌}
+use Rattle.std.specs.Prelude.{ℕ, ◌+◌, ◌*◌, ◌/◌, ◌%◌, List, ◌∷◌, ◌++◌, take, ◌==◌, Option, Some, None, if◌then◌else◌}
 use Rattle.std.specs.Int.{w32}
 use Rattle.sha2.specs.Sha256.{sha256}
 use Rattle.st_fields.specs.Spelling.{number}
@@ -9,7 +9,7 @@ use Rattle.st_lmots.specs.declared.kind.OtsKind.TheVariants.{W4, W8}
 use Rattle.st_lms.specs.declared.kind.LmsKind.{LmsKind}
 use Rattle.st_lms.specs.declared.kind.LmsKind.TheVariants.{H5, H10}
 use Rattle.st_lms.specs.declared.secret.LmsSecret.{LmsSecret}
-use Rattle.st_lms.specs.Kinds.{leaves_of}
+use Rattle.st_lms.specs.Kinds.{leaves_of, key_length, lms_seal_length}
 use Rattle.st_lms.specs.Formulas.{lms_key, lms_signature}
 use Rattle.st_hss.specs.declared.secret.Levels.{Levels}
 use Rattle.st_hss.specs.declared.secret.Levels.TheVariants.{One, Two}
@@ -60,6 +60,15 @@ signature_by_levels Two s index message = second_front s (index / leaves_of s.ki
 
 unfoldable pub hss_signature : HssSecret → ℕ → List ℕ → List ℕ
 hss_signature s index message = signature_by_levels s.levels s.first index message
+
+-- the bytes of a signature: how many keys are signed, and a tree's signature for each level, with the second
+-- key between two
+abbrev pub length_by_levels : Levels → LmsSecret → ℕ
+length_by_levels One s = 4 + lms_seal_length s.kind s.ots
+length_by_levels Two s = 4 + lms_seal_length s.kind s.ots + key_length + lms_seal_length s.kind s.ots
+
+abbrev pub hss_seal_length : HssSecret → ℕ
+hss_seal_length s = length_by_levels s.levels s.first
 
 -- ---- the choices
 

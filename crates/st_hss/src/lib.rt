@@ -11,7 +11,7 @@ mod secret;
 pub use check::hss_check;
 pub use error::HssError;
 pub use key::HssKey;
-pub use laws::hss_sealed_checks;
+pub use laws::{hss_seal_lengths, hss_sealed_checks};
 pub use secret::{HssSecret, Levels};
 
 #[cfg(test)]

@@ -7,8 +7,9 @@ pub enum Levels {
     Two,
 }
 
-/// All that a key is made from: both levels have the types of the first tree.
-#[derive(Clone, Copy, Debug, PartialEq, Eq)]
+/// All that a key is made from: both levels have the types of the first tree. It has no `Debug`, so that
+/// no text shows the seed.
+#[derive(Clone, Copy, PartialEq, Eq)]
 pub struct HssSecret {
     pub levels: Levels,
     pub first: LmsSecret,

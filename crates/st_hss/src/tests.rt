@@ -1,4 +1,4 @@
-use crate::{HssError, HssKey, hss_check, hss_sealed_checks};
+use crate::{HssError, HssKey, hss_check, hss_seal_lengths, hss_sealed_checks};
 use sha2::{Digest, Sha256};
 use std::test::Fail;
 
@@ -15,6 +15,7 @@ const SEED: [u8; 32] = [
 #[test]
 fn one_level_is_the_standards(rt: HostRuntime) -> Result<(), Fail> {
     hss_sealed_checks();
+    hss_seal_lengths();
     let public: [u8; 60] = [
         0x00, 0x00, 0x00, 0x01, 0x00, 0x00, 0x00, 0x05, 0x00, 0x00, 0x00, 0x03, 0x00, 0x01, 0x02,
         0x03, 0x04, 0x05, 0x06, 0x07, 0x08, 0x09, 0x0a, 0x0b, 0x0c, 0x0d, 0x0e, 0x0f, 0x89, 0xa1,

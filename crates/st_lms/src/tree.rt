@@ -13,7 +13,7 @@ use st_lmots::{joined_array, put_signature};
 use std::alloc::{AllocError, Global};
 
 /// A tree, with each of its nodes at its number: the root is node 1, and place 0 is free.
-#[derive(Debug, Drop)]
+#[derive(Drop)]
 pub struct Tree {
     secret: LmsSecret,
     nodes: Vec<[u8; 32]>,
