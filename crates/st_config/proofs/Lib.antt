@@ -1,3 +1,2 @@
 -- Lemmas.
 pub mod LineLaws
-pub mod PartLaws

@@ -1,4 +1,5 @@
 -- The definitions that contracts cite.
+pub mod Built
 pub mod Header
 pub mod Parts
 pub mod Taken

@@ -1,25 +1,9 @@
 ghost use Rattle.std.specs.Prelude.{◌≡◌, ◌≤◌, IfSome};
 ghost use Rattle.std.specs.Option.{option_copied};
 ghost use Rattle.st_config.specs.Header.{number_of, text_of};
-ghost use Rattle.st_config.specs.Parts.{after_front, before_end, unquoted, value_of};
+ghost use Rattle.st_config.specs.Parts.{unquoted, value_of};
 
-use st_texts::read_number;
-
-/// What follows this front, where the text begins with it.
-#[tactic(auto, using(crate::proofs::PartLaws::strips_front))]
-fn after_front<'a>(text: &'a str, front: &str) -> Option<&'a str>
-    ensures { option_copied result ≡ after_front front.now text.now }
-{
-    text.strip_prefix(front)
-}
-
-/// What stands before this end, where the text ends with it.
-#[tactic(auto, using(crate::proofs::PartLaws::strips_end))]
-fn before_end<'a>(text: &'a str, end: &str) -> Option<&'a str>
-    ensures { option_copied result ≡ before_end end.now text.now }
-{
-    text.strip_suffix(end)
-}
+use st_texts::{after_front, before_end, read_number};
 
 /// The value of a line `key = value`.
 #[tactic(auto, unfolding(crate::specs::Parts::value_of))]

@@ -8,14 +8,18 @@ use Rattle.std.specs.List.{All}
 use Rattle.std.specs.Prelude.{Option, Some, None, nat_le, nat_lt}
 use Rattle.st_words.specs.declared.ids.Who.{Who}
 use Rattle.st_words.specs.declared.statement.Statement.{Statement}
+use Rattle.st_words.specs.declared.statement.Statement.TheVariants.{Prepare}
+use Rattle.st_seal.specs.declared.quorum.Signed.{Signed}
+use Rattle.st_message.specs.declared.message.Message.TheVariants as messages
 use Rattle.st_message.specs.declared.event.Scope.{Scope}
 use Rattle.st_schedule.specs.declared.limits.TheConstants.{MOST_MESSAGES, MOST_SENT}
 use Rattle.st_schedule.specs.declared.line.Dest.{Dest}
 use Rattle.st_schedule.specs.declared.line.Line.{Line}
+use Rattle.st_protocol.specs.Words.{server_at}
 use Rattle.st_protocol.specs.Keeping.{or_else}
-use Rattle.st_protocol.specs.World.{Deployment, Fault, TooMany, TooMuch, Node, Pair, Customer, World, empty, pairs_to, with_node, with_customer, with_waiting, ends, hands, size_of, sent_size, send_fault, dests_of, sends_to}
-use Rattle.st_protocol.specs.Schedule.{is_built_line, goes_on, steps}
-use Rattle.st_flows.proofs.KeptLaws.{IsKept, IsKeptByServers, serves_kept, step_built_kept}
+use Rattle.st_protocol.specs.World.{Deployment, Fault, TooMany, TooMuch, Node, Pair, Customer, World, empty, pairs_to, uses_leaf, with_node, with_customer, with_waiting, ends, hands, size_of, sent_size, send_fault, dests_of, sends_to}
+use Rattle.st_protocol.specs.Schedule.{sets_no_stop, restarted, sealed_message, client_seal_of, then_assigns, seals, goes_on, steps}
+use Rattle.st_flows.proofs.KeptLaws.{IsKept, IsKeptByServers, serves_kept, step_kept}
 
 -- While the world goes on it has sent no more than the most messages; where each has no more than so many
 -- destinations, no more than those wait.
@@ -23,9 +27,9 @@ pub record IsSmall {Wire : Type 0} (most : ℕ) (world : World Wire) : Type 0 wh
   pub sent : world.ended ≡ None → length world.sent ≤ MOST_MESSAGES
   pub waiting : length world.waiting ≤ most * length world.sent
 
--- a line that is built
-abbrev IsLineBuilt : Line → Type 0
-IsLineBuilt line = is_built_line line ≡ true
+-- a line that sets no stop
+abbrev SetsNoStop : Line → Type 0
+SetsNoStop line = sets_no_stop line ≡ true
 
 -- neither of two faults
 neither : (a b : Option Fault) → or_else a b ≡ None → (a ≡ None) × (b ≡ None)
@@ -55,18 +59,22 @@ module _ {Wire : Type 0} (d : Deployment Wire) where
 
   module _ (most : ℕ) (few : (to : Scope) → length (dests_of d to) ≤ most) where
     -- after a message that is sent
-    small_sends : (world : World Wire) (wire : Wire) (to : Scope) → IsSmall most world → IsSmall most (sends_to d world wire (dests_of d to))
+    small_sends_to : (world : World Wire) (wire : Wire) (to : List Dest) → length to ≤ most → IsSmall most world → IsSmall most (sends_to d world wire to)
     unfolding sends_to
-    small_sends world wire to small =
+    small_sends_to world wire to bound small =
         let joined : length (world.sent ++ wire ∷ []) ≡ length world.sent + 1 = length-append world.sent (wire ∷ []) in
         let one_more : length (world.sent ++ wire ∷ []) ≡ suc (length world.sent) = omega (arith, joined) in
         record {
           sent = λ going. let below = below_most world wire (neither world.ended (send_fault d world wire) going).1 in omega (arith, below, one_more);
           waiting =
-              subst (λ n. n ≤ most * length (world.sent ++ wire ∷ [])) (sym (length-append world.waiting (pairs_to (length world.sent) (dests_of d to)) ∙ ap (λ n. length world.waiting + n) (pairs_length (length world.sent) (dests_of d to))))
-              (subst (λ n. length world.waiting + length (dests_of d to) ≤ n) (sym (ap (λ n. most * n) one_more ∙ mul-suc most (length world.sent)))
-              (under (length world.waiting) (length (dests_of d to)) (most * length world.sent) most small.waiting (few to)));
+              subst (λ n. n ≤ most * length (world.sent ++ wire ∷ [])) (sym (length-append world.waiting (pairs_to (length world.sent) to) ∙ ap (λ n. length world.waiting + n) (pairs_length (length world.sent) to)))
+              (subst (λ n. length world.waiting + length to ≤ n) (sym (ap (λ n. most * n) one_more ∙ mul-suc most (length world.sent)))
+              (under (length world.waiting) (length to) (most * length world.sent) most small.waiting bound));
         }
+
+    -- the same, to a scope's destinations
+    small_sends : (world : World Wire) (wire : Wire) (to : Scope) → IsSmall most world → IsSmall most (sends_to d world wire (dests_of d to))
+    small_sends world wire to small = small_sends_to world wire (dests_of d to) (few to) small
 
     -- after a seal that is noted
     small_hands : (world : World Wire) (who : Who) (leaf : ℕ) (s : Statement) → IsSmall most world → IsSmall most (hands world who leaf s)
@@ -83,12 +91,30 @@ module _ {Wire : Type 0} (d : Deployment Wire) where
     unfolding with_customer
     small_customer world client customer small = record { sent = small.sent; waiting = small.waiting }
 
-    -- with the first pair taken off
-    small_waiting : (world : World Wire) (first : Pair) (pairs : List Pair) → world.waiting ≡ first ∷ pairs → IsSmall most world → IsSmall most (with_waiting world pairs)
+    -- with fewer pairs
+    small_waiting : (world : World Wire) (pairs : List Pair) → length pairs ≤ length world.waiting → IsSmall most world → IsSmall most (with_waiting world pairs)
     unfolding with_waiting
-    small_waiting world first pairs is small =
-        let all : suc (length pairs) ≤ most * length world.sent = subst (λ (ps : List Pair). length ps ≤ most * length world.sent) is small.waiting in
-        record { sent = small.sent; waiting = omega (arith, all) }
+    small_waiting world pairs fewer small = let all = small.waiting in record { sent = small.sent; waiting = omega (arith, all, fewer) }
+
+    -- with a faulty server's leaf used
+    small_leaf : (world : World Wire) (site index : ℕ) → IsSmall most world → IsSmall most (uses_leaf world site index)
+    unfolding uses_leaf
+    small_leaf world site index small = record { sent = small.sent; waiting = small.waiting }
+
+    -- after an assignment that goes nowhere by itself
+    small_assigns : (world : World Wire) (s : Statement) (signed : Signed) → IsSmall most world → IsSmall most (then_assigns d world s signed)
+    unfolding then_assigns
+    small_assigns world (Prepare site view local number value) signed small =
+        small_sends_to world (d.formats.encode (messages.Assign view local number value (client_seal_of d world value) signed)) [] (omega arith) small
+    small_assigns world _ signed small = small
+
+    -- after a faulty server's seal
+    small_seals : (world : World Wire) (site index : ℕ) (s : Statement) → IsSmall most world → IsSmall most (seals d world site index s).world
+    unfolding seals
+    small_seals world site index s small =
+        let signed : Signed = record { index = index; seal = d.formats.seal (server_at site index) (world.leaves site index) s } in
+        small_assigns (sends_to d (uses_leaf world site index) (d.formats.encode (sealed_message s signed)) []) s signed
+        (small_sends_to (uses_leaf world site index) (d.formats.encode (sealed_message s signed)) [] (omega arith) (small_leaf world site index small))
 
     -- after a further fault
     small_ends : (world : World Wire) (fault : Option Fault) → IsSmall most world → IsSmall most (ends world fault)
@@ -108,16 +134,18 @@ module _ {Wire : Type 0} (d : Deployment Wire) where
           handing = small_hands;
           sending = small_sends;
           ending = small_ends;
+          restarting = λ world site index kept. small_node world site index (restarted d (world.nodes site index) kept);
+          sealing = small_seals;
         }
 
-    -- through lines that are built
-    pub small_steps : (world : World Wire) (all : List Line) → All IsLineBuilt all → IsSmall most world → IsSmall most (steps d world all)
-    small_steps world [] built small = small
-    small_steps world (line ∷ more) built small =
-        small_steps (goes_on d world line) more (All-tail IsLineBuilt line more built)
-        (step_built_kept d (IsSmall most) small_is_kept world line (All-head IsLineBuilt line more built) small)
+    -- through lines that set no stop
+    pub small_steps : (world : World Wire) (all : List Line) → All SetsNoStop all → IsSmall most world → IsSmall most (steps d world all)
+    small_steps world [] unset small = small
+    small_steps world (line ∷ more) unset small =
+        small_steps (goes_on d world line) more (All-tail SetsNoStop line more unset)
+        (step_kept d (IsSmall most) small_is_kept world line (All-head SetsNoStop line more unset) small)
 
     -- Of the world of such lines.
-    pub small_world : (all : List Line) → All IsLineBuilt all → IsSmall most (steps d empty all)
+    pub small_world : (all : List Line) → All SetsNoStop all → IsSmall most (steps d empty all)
     unfolding empty
-    small_world all built = small_steps empty all built (record { sent = λ going. omega arith; waiting = omega arith })
+    small_world all unset = small_steps empty all unset (record { sent = λ going. omega arith; waiting = omega arith })

@@ -1,6 +1,6 @@
 -- What ended a world stays, whatever comes after.
-use Rattle.std.proofs.Common.{◌≡◌, ℕ, Bool, List, [], ◌∷◌, ap}
-use Rattle.std.specs.Prelude.{Option, Some, slice_get}
+use Rattle.std.proofs.Common.{◌≡◌, ℕ, List, [], ◌∷◌, ap}
+use Rattle.std.specs.Prelude.{Option, Some}
 use Rattle.st_words.specs.declared.ids.Who.{Who}
 use Rattle.st_words.specs.declared.statement.Statement.{Statement}
 use Rattle.st_words.specs.declared.statement.Statement.TheVariants.{Prepare}
@@ -10,13 +10,12 @@ use Rattle.st_message.specs.declared.message.Message.TheVariants as messages
 use Rattle.st_schedule.specs.declared.line.Dest.{Dest}
 use Rattle.st_schedule.specs.declared.line.Line.{Line}
 use Rattle.st_schedule.specs.declared.line.Line.TheVariants as lines
-use Rattle.st_schedule.specs.declared.done.Done.TheVariants as done
 use Rattle.st_protocol.specs.Words.{server_at}
 use Rattle.st_protocol.specs.Keeping.{or_else}
-use Rattle.st_protocol.specs.Duty.{Event, Tick}
-use Rattle.st_protocol.specs.World.{Deployment, Fault, BadReference, Node, Pair, Customer, World, same_dest, stepped, with_node, with_customer, with_waiting, uses_leaf, ends, hands, send_fault, dests_of, sends_to, hands_out, serves, delivers}
-use Rattle.st_protocol.specs.Schedule.{is_pair, without, Flowing, sealed_message, set_to_stop, timeout_event, drops, flows, restarted, client_seal_of, then_assigns, seals, forged_by, is_reference, goes, step, goes_on, steps}
-use Rattle.st_flows.proofs.KeptLaws.{IsKept, IsKeptByServers, hands_out_kept, serves_kept, if_kept, given_kept, delivers_kept, flows_kept, submits_kept}
+use Rattle.st_protocol.specs.Duty.{Event}
+use Rattle.st_protocol.specs.World.{Deployment, Fault, Node, Pair, Customer, World, with_node, with_customer, with_waiting, uses_leaf, ends, hands, send_fault, dests_of, sends_to, hands_out, serves, delivers}
+use Rattle.st_protocol.specs.Schedule.{Flowing, sealed_message, set_to_stop, flows, restarted, client_seal_of, then_assigns, seals, goes, step, goes_on, steps}
+use Rattle.st_flows.proofs.KeptLaws.{IsKept, IsKeptByServers, StopKept, hands_out_kept, serves_kept, delivers_kept, flows_kept, goes_kept, line_kept}
 
 module _ {Wire : Type 0} (d : Deployment Wire) (f : Fault) where
   -- ended by this fault
@@ -76,34 +75,7 @@ module _ {Wire : Type 0} (d : Deployment Wire) (f : Fault) where
   pub serves_ended : (world : World Wire) (site index : ℕ) (event : Event Wire) → world.ended ≡ Some f → (serves d world site index event).world.ended ≡ Some f
   serves_ended = serves_kept d Ended ended_by_servers
 
-  -- ---- a delivery, and a flow
-
-  -- the parts keep it
-  ended_is_kept : IsKept d Ended
-  ended_is_kept =
-      record {
-        serving = serves_ended;
-        client = customer_ended;
-        waiting = λ world first pairs is. waiting_ended world pairs;
-        handing = hands_ended;
-        sending = λ world wire to. sends_to_ended world wire (dests_of d to);
-        ending = ends_ended;
-      }
-
-  -- after a delivery
-  pub delivers_ended : (world : World Wire) (to : Dest) (wire : Wire) → world.ended ≡ Some f → (delivers d world to wire).world.ended ≡ Some f
-  delivers_ended = delivers_kept d Ended ended_is_kept
-
-  -- after a flow
-  pub flows_ended : (k : ℕ) (x : Flowing Wire) → x.world.ended ≡ Some f → (flows d k x).world.ended ≡ Some f
-  flows_ended = flows_kept d Ended ended_is_kept
-
-  -- ---- the lines
-
-  -- after pairs that are lost
-  drops_ended : (world : World Wire) (test : Pair → Bool) → world.ended ≡ Some f → (drops d world test).world.ended ≡ Some f
-  unfolding drops
-  drops_ended world test e = waiting_ended world (without test world.waiting) e
+  -- ---- what isn't a server's event
 
   -- after a sealed Prepare's assignment
   assigns_ended : (world : World Wire) (s : Statement) (signed : Signed) → world.ended ≡ Some f → (then_assigns d world s signed).ended ≡ Some f
@@ -120,34 +92,41 @@ module _ {Wire : Type 0} (d : Deployment Wire) (f : Fault) where
       assigns_ended (sends_to d (uses_leaf world site index) (d.formats.encode (sealed_message s signed)) []) s signed
       (sends_to_ended (uses_leaf world site index) (d.formats.encode (sealed_message s signed)) [] (leaf_ended world site index e))
 
+  -- the parts keep it
+  ended_is_kept : IsKept d Ended
+  ended_is_kept =
+      record {
+        serving = serves_ended;
+        client = customer_ended;
+        waiting = λ world pairs fewer. waiting_ended world pairs;
+        handing = hands_ended;
+        sending = λ world wire to. sends_to_ended world wire (dests_of d to);
+        ending = ends_ended;
+        restarting = λ world site index kept. node_ended world site index (restarted d (world.nodes site index) kept);
+        sealing = seals_ended;
+      }
+
+  -- so does a stop
+  stop_ended : (world : World Wire) (line : Line) → world.ended ≡ Some f → StopKept d Ended world line
+  stop_ended world (lines.Stop server call) e =
+      node_ended world server.site server.index (set_to_stop (world.nodes server.site server.index) call) e
+  stop_ended world _ e = tt
+
+  -- after a delivery
+  pub delivers_ended : (world : World Wire) (to : Dest) (wire : Wire) → world.ended ≡ Some f → (delivers d world to wire).world.ended ≡ Some f
+  delivers_ended = delivers_kept d Ended ended_is_kept
+
+  -- after a flow
+  pub flows_ended : (k : ℕ) (x : Flowing Wire) → x.world.ended ≡ Some f → (flows d k x).world.ended ≡ Some f
+  flows_ended = flows_kept d Ended ended_is_kept
+
   -- after a line that names what is there
   pub goes_ended : (world : World Wire) (line : Line) → world.ended ≡ Some f → (goes d world line).world.ended ≡ Some f
-  goes_ended world (lines.Client client op) e = submits_kept d Ended ended_is_kept world client.0 op e
-  goes_ended world (lines.Deliver m to) e =
-      given_kept d Ended (slice_get world.sent m) _ (λ wire. delivers d (with_waiting world (without (is_pair m to) world.waiting)) to wire)
-      e
-      (λ wire. delivers_ended (with_waiting world (without (is_pair m to) world.waiting)) to wire (waiting_ended world (without (is_pair m to) world.waiting) e))
-  goes_ended world (lines.Drop m to) e = drops_ended world (is_pair m to) e
-  goes_ended world (lines.Lose to) e = drops_ended world (λ p. same_dest p.to to) e
-  goes_ended world (lines.Flow k) e = flows_ended k (record { world = world; pairs = 0; did = 0; ignored = 0 }) e
-  goes_ended world (lines.Timeout server global) e = serves_ended world server.site server.index (timeout_event global) e
-  goes_ended world (lines.Tick server) e = serves_ended world server.site server.index Tick e
-  goes_ended world (lines.Stop server call) e =
-      node_ended world server.site server.index (set_to_stop (world.nodes server.site server.index) call) e
-  goes_ended world (lines.Restart server kept) e =
-      node_ended world server.site server.index (restarted d (world.nodes server.site server.index) kept) e
-  goes_ended world (lines.Seal server s) e = seals_ended world server.site server.index s e
-  goes_ended world (lines.Raw to bytes) e =
-      given_kept d Ended (forged_by d world (d.formats.read (d.formats.raw bytes))) _ (λ fault. stepped (ends world (Some fault)) (done.Dropped 0))
-      (delivers_ended world to (d.formats.raw bytes) e)
-      (λ fault. ends_ended world (Some fault) e)
-  goes_ended world (lines.Show m) e =
-      given_kept d Ended (slice_get world.sent m) _ (λ wire. stepped world (done.Shown (d.formats.bytes wire))) e (λ wire. e)
+  goes_ended world line e = goes_kept d Ended ended_is_kept world line (stop_ended world line e) e
 
   -- after a line
   pub step_ended : (world : World Wire) (line : Line) → world.ended ≡ Some f → (step d world line).world.ended ≡ Some f
-  unfolding step
-  step_ended world line e = if_kept d Ended (is_reference d world line) _ _ (goes_ended world line e) (ends_ended world (Some BadReference) e)
+  step_ended world line e = line_kept d Ended ended_is_kept world line (stop_ended world line e) e
 
   -- after lines
   pub steps_ended : (world : World Wire) (all : List Line) → world.ended ≡ Some f → (steps d world all).ended ≡ Some f

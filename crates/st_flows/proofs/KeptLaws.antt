@@ -1,6 +1,6 @@
--- What the parts of a delivery keep, a server's event, a delivery, a flow, a client's update and a whole line that is
--- built keep too.
-use Rattle.std.proofs.Common.{◌≡◌, ℕ, ◌+◌, Bool, true, false, cond, zero, suc, nat_eq, List, [], ◌∷◌, refl}
+-- What the parts of a delivery keep, a server's event, a delivery, a flow, a client's update and a whole line that sets
+-- no stop keep too.
+use Rattle.std.proofs.Common.{◌≡◌, ◌≤◌, ℕ, ◌+◌, Bool, true, false, cond, zero, suc, nat_eq, List, [], ◌∷◌, length, refl, ap, arith}
 use Rattle.std.specs.Prelude.{Option, Some, None, is_some, nat_le, slice_get}
 use Rattle.st_words.specs.declared.ids.Who.{Who}
 use Rattle.st_words.specs.declared.statement.Statement.{Statement}
@@ -22,24 +22,42 @@ use Rattle.st_schedule.specs.declared.line.Line.TheVariants as lines
 use Rattle.st_schedule.specs.declared.done.Done.TheVariants as done
 use Rattle.st_protocol.specs.Words.{Bytes, server_at, client_at, an_update}
 use Rattle.st_protocol.specs.Keeping.{given}
-use Rattle.st_protocol.specs.Duty.{Event, Deliver, Reading, Faulty, Clean}
-use Rattle.st_protocol.specs.World.{Deployment, Fault, BadReference, Stand, Running, Stopped, Full, Node, Pair, Answered, Customer, World, Stepped, stepped, handed, with_node, with_customer, with_waiting, ends, hands, bad_seal, read_known, dests_of, sends_to, notes_seal, hands_one, hands_out, settled, is_full_by, is_stopped_by, stands_full, stands_stopped, plan_at, comes_to, by_stand, serves, with_reply, answered, awaits, on_checked_reply, on_reply, client_takes, delivers}
-use Rattle.st_protocol.specs.Schedule.{is_built_line, Flowing, counts, flows_first, flows, submits, is_reference, goes, step}
+use Rattle.st_protocol.specs.Duty.{Event, Deliver, Tick, Reading, Faulty, Clean}
+use Rattle.st_protocol.specs.World.{Deployment, Fault, BadReference, Stand, Running, Stopped, Full, Node, Pair, Answered, Customer, World, Stepped, stepped, handed, same_dest, with_node, with_customer, with_waiting, ends, hands, bad_seal, read_known, dests_of, sends_to, notes_seal, hands_one, hands_out, settled, is_full_by, is_stopped_by, stands_full, stands_stopped, plan_at, comes_to, by_stand, serves, with_reply, answered, awaits, on_checked_reply, on_reply, client_takes, delivers}
+use Rattle.st_protocol.specs.Schedule.{sets_no_stop, is_pair, without, drops, Flowing, counts, flows_first, flows, submits, timeout_event, set_to_stop, restarted, seals, forged_by, is_reference, goes, step}
 
--- A fact of a world that the parts keep: a server's event, and each small change that clients and messages make.
+-- A fact of a world that the parts keep: a server's event, a server started again, a faulty server's seal, and each
+-- small change that clients and messages make. What waits only gets less by itself.
 pub record IsKept {Wire : Type 0} (d : Deployment Wire) (P : World Wire → Type 0) : Type 0 where
   pub serving : (world : World Wire) (site index : ℕ) (event : Event Wire) → P world → P (serves d world site index event).world
   pub client : (world : World Wire) (client : ℕ) (customer : Customer) → P world → P (with_customer world client customer)
-  pub waiting : (world : World Wire) (first : Pair) (pairs : List Pair) → world.waiting ≡ first ∷ pairs → P world → P (with_waiting world pairs)
+  pub waiting : (world : World Wire) (pairs : List Pair) → length pairs ≤ length world.waiting → P world → P (with_waiting world pairs)
   pub handing : (world : World Wire) (who : Who) (leaf : ℕ) (s : Statement) → P world → P (hands world who leaf s)
   pub sending : (world : World Wire) (wire : Wire) (to : Scope) → P world → P (sends_to d world wire (dests_of d to))
   pub ending : (world : World Wire) (fault : Option Fault) → P world → P (ends world fault)
+  pub restarting : (world : World Wire) (site index : ℕ) (kept : Bool) → P world → P (with_node world site index (restarted d (world.nodes site index) kept))
+  pub sealing : (world : World Wire) (site index : ℕ) (s : Statement) → P world → P (seals d world site index s).world
 
 -- A fact of a world that is kept by a change of a server, and by what a server hands out.
 pub record IsKeptByServers {Wire : Type 0} (d : Deployment Wire) (P : World Wire → Type 0) : Type 0 where
   pub changing : (world : World Wire) (site index : ℕ) (node : Node) → P world → P (with_node world site index node)
   pub handing : (world : World Wire) (who : Who) (leaf : ℕ) (s : Statement) → P world → P (hands world who leaf s)
   pub sending : (world : World Wire) (wire : Wire) (to : Scope) → P world → P (sends_to d world wire (dests_of d to))
+
+-- Where the line sets a stop, the fact holds with the stop set.
+abbrev pub StopKept : {Wire : Type 0} → Deployment Wire → (World Wire → Type 0) → World Wire → Line → Type 0
+StopKept d P world (lines.Stop server call) = P (with_node world server.site server.index (set_to_stop (world.nodes server.site server.index) call))
+StopKept d P world _ = Unit {0}
+
+-- no more pairs are left than there were
+length-without : (lost : Pair → Bool) (pairs : List Pair) → length (without lost pairs) ≤ length pairs
+unfolding without
+length-without lost [] = omega arith
+length-without lost (p ∷ ps) = by (lost p) (length-without lost ps)
+  where
+    by : (b : Bool) → length (without lost ps) ≤ length ps → length (cond b (without lost ps) (p ∷ without lost ps)) ≤ suc (length ps)
+    by true fewer = omega (arith, fewer)
+    by false fewer = omega (arith, fewer)
 
 module _ {Wire : Type 0} (d : Deployment Wire) (P : World Wire → Type 0) where
   -- after either of two events
@@ -137,7 +155,7 @@ module _ {Wire : Type 0} (d : Deployment Wire) (P : World Wire → Type 0) where
       where
         by_wire : (wire : Option Wire) → P (given wire x (λ sent. counts d x (delivers d (with_waiting x.world ps) p.to sent))).world
         by_wire None = h
-        by_wire (Some sent) = delivers_kept (with_waiting x.world ps) p.to sent (kept.waiting x.world p ps is h)
+        by_wire (Some sent) = delivers_kept (with_waiting x.world ps) p.to sent (kept.waiting x.world ps (let all = ap length is in omega (arith, all)) h)
 
     -- after a flow
     pub flows_kept : (k : ℕ) (x : Flowing Wire) → P x.world → P (flows d k x).world
@@ -159,14 +177,44 @@ module _ {Wire : Type 0} (d : Deployment Wire) (P : World Wire → Type 0) where
         (kept.handing (with_customer world client waits) (client_at client) used (ClientUpdate update)
         (kept.client world client waits h)))
 
-    -- after a line that is built
-    goes_built_kept : (world : World Wire) (line : Line) → is_built_line line ≡ true → P world → P (goes d world line).world
-    goes_built_kept world (lines.Client client op) built h = submits_kept world client.0 op h
-    goes_built_kept world (lines.Flow k) built h = flows_kept k (record { world = world; pairs = 0; did = 0; ignored = 0 }) h
-    goes_built_kept world (lines.Show m) built h = absurd (let no : false ≡ true = built in cc)
-    goes_built_kept world _ built h = absurd (let no : false ≡ true = built in cc)
+    -- where pairs are lost
+    fewer_kept : (world : World Wire) (lost : Pair → Bool) → P world → P (with_waiting world (without lost world.waiting))
+    fewer_kept world lost h = kept.waiting world (without lost world.waiting) (length-without lost world.waiting) h
 
-    -- after a line that is built, whether or not what it names is there
-    pub step_built_kept : (world : World Wire) (line : Line) → is_built_line line ≡ true → P world → P (step d world line).world
+    -- after lost pairs
+    drops_kept : (world : World Wire) (lost : Pair → Bool) → P world → P (drops d world lost).world
+    unfolding drops
+    drops_kept world lost h = fewer_kept world lost h
+
+    -- after a line, where a stop that it sets keeps the fact too
+    pub goes_kept : (world : World Wire) (line : Line) → StopKept d P world line → P world → P (goes d world line).world
+    goes_kept world (lines.Client client op) stop h = submits_kept world client.0 op h
+    goes_kept world (lines.Deliver m to) stop h =
+        given_kept (slice_get world.sent m) (stepped world (done.Dropped 0)) (λ wire. delivers d (with_waiting world (without (is_pair m to) world.waiting)) to wire) h
+        (λ wire. delivers_kept (with_waiting world (without (is_pair m to) world.waiting)) to wire (fewer_kept world (is_pair m to) h))
+    goes_kept world (lines.Drop m to) stop h = drops_kept world (is_pair m to) h
+    goes_kept world (lines.Lose to) stop h = drops_kept world (λ p. same_dest p.to to) h
+    goes_kept world (lines.Flow k) stop h = flows_kept k (record { world = world; pairs = 0; did = 0; ignored = 0 }) h
+    goes_kept world (lines.Timeout server global) stop h = kept.serving world server.site server.index (timeout_event global) h
+    goes_kept world (lines.Tick server) stop h = kept.serving world server.site server.index Tick h
+    goes_kept world (lines.Stop server call) stop h = stop
+    goes_kept world (lines.Restart server again) stop h = kept.restarting world server.site server.index again h
+    goes_kept world (lines.Seal server s) stop h = kept.sealing world server.site server.index s h
+    goes_kept world (lines.Raw to bytes) stop h =
+        given_kept (forged_by d world (d.formats.read (d.formats.raw bytes))) (delivers d world to (d.formats.raw bytes)) (λ fault. stepped (ends world (Some fault)) (done.Dropped 0))
+        (delivers_kept world to (d.formats.raw bytes) h) (λ fault. kept.ending world (Some fault) h)
+    goes_kept world (lines.Show m) stop h =
+        given_kept (slice_get world.sent m) (stepped world (done.Dropped 0)) (λ wire. stepped world (done.Shown (d.formats.bytes wire))) h (λ wire. h)
+
+    -- the same, whether or not what the line names is there
+    pub line_kept : (world : World Wire) (line : Line) → StopKept d P world line → P world → P (step d world line).world
     unfolding step
-    step_built_kept world line built h = if_kept (is_reference d world line) _ _ (goes_built_kept world line built h) (kept.ending world (Some BadReference) h)
+    line_kept world line stop h = if_kept (is_reference d world line) _ _ (goes_kept world line stop h) (kept.ending world (Some BadReference) h)
+
+    -- after a line that sets no stop
+    pub step_kept : (world : World Wire) (line : Line) → sets_no_stop line ≡ true → P world → P (step d world line).world
+    step_kept world line unset h = line_kept world line (no_stop line unset) h
+      where
+        no_stop : (line : Line) → sets_no_stop line ≡ true → StopKept d P world line
+        no_stop (lines.Stop server call) unset = absurd (let no : false ≡ true = unset in cc)
+        no_stop _ unset = tt

@@ -1,4 +1,4 @@
--- Where no body is written, deliveries, flows, clients' updates and lines that are built leave every server running,
+-- Where no body is written, deliveries, flows, clients' updates and lines that set no stop leave every server running,
 -- with no stop set and an empty journal.
 use Rattle.std.proofs.Common.{◌≡◌, ℕ, ◌-◌, ◌+◌, Bool, true, false, cond, nat_eq, List, refl, sym, ap, subst, arith}
 use Rattle.std.specs.Prelude.{◌&&◌, Option, Some, None}
@@ -15,11 +15,11 @@ use Rattle.st_protocol.specs.Words.{Bytes, server_at}
 use Rattle.st_protocol.specs.Keeping.{given}
 use Rattle.st_protocol.specs.Duty.{Event}
 use Rattle.st_protocol.specs.World.{Deployment, Fault, Node, Pair, Customer, World, is_nil, handed, Stepped, stepped, with_node, with_customer, with_waiting, ends, hands, dests_of, sends_to, notes_seal, hands_one, hands_out, settled, plan_at, by_stand, serves, delivers}
-use Rattle.st_protocol.specs.Schedule.{is_built_line, Flowing, flows, submits, step}
+use Rattle.st_protocol.specs.Schedule.{sets_no_stop, Flowing, flows, submits, restarted, seals, step}
 use Rattle.st_protocol.specs.Plain.{IsPlain, ArePlain}
 use Rattle.st_protocol.proofs.GatherLaws.{fold-keeps}
-use Rattle.st_protocol.proofs.PlainLaws.{plain_serves}
-use Rattle.st_flows.proofs.KeptLaws.{IsKept, delivers_kept, flows_kept, submits_kept, step_built_kept}
+use Rattle.st_protocol.proofs.PlainLaws.{plain_serves, restarted_plain, seals_plain}
+use Rattle.st_flows.proofs.KeptLaws.{IsKept, delivers_kept, flows_kept, submits_kept, step_kept}
 
 -- ---- one server
 
@@ -139,16 +139,23 @@ module _ {Wire : Type 0} (d : Deployment Wire) where
             (plain_with_node world site index after_plan
             (plain_settled (world.nodes site index) (plan_at d world site index event) (plain_at world plain site index)) plain))
 
+    -- after a server was started again
+    plain_restarts : (world : World Wire) (site index : ℕ) (kept : Bool) → ArePlain world → ArePlain (with_node world site index (restarted d (world.nodes site index) kept))
+    plain_restarts world site index kept plain =
+        plain_with_node world site index (restarted d (world.nodes site index) kept) (restarted_plain d nothing_written (world.nodes site index) kept (plain_at world plain site index)) plain
+
     -- the parts keep it
     plain_is_kept : IsKept d ArePlain
     plain_is_kept =
         record {
           serving = plain_after_event;
           client = plain_with_customer;
-          waiting = λ world first pairs is. plain_with_waiting world pairs;
+          waiting = λ world pairs fewer. plain_with_waiting world pairs;
           handing = plain_hands;
           sending = λ world wire to. plain_sends_to world wire (dests_of d to);
           ending = plain_ends;
+          restarting = plain_restarts;
+          sealing = seals_plain d nothing_written;
         }
 
     -- after a delivery
@@ -163,6 +170,6 @@ module _ {Wire : Type 0} (d : Deployment Wire) where
     pub plain_submits : (world : World Wire) (client : ℕ) (op : Bytes) → ArePlain world → ArePlain (submits d world client op).world
     plain_submits = submits_kept d ArePlain plain_is_kept
 
-    -- after a line that is built
-    pub plain_step : (world : World Wire) (line : Line) → is_built_line line ≡ true → ArePlain world → ArePlain (step d world line).world
-    plain_step = step_built_kept d ArePlain plain_is_kept
+    -- after a line that sets no stop
+    pub plain_step : (world : World Wire) (line : Line) → sets_no_stop line ≡ true → ArePlain world → ArePlain (step d world line).world
+    plain_step = step_kept d ArePlain plain_is_kept

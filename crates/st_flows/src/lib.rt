@@ -13,7 +13,7 @@ ghost use Rattle.st_schedule.specs.declared.done.Done.TheVariants as done;
 ghost use Rattle.st_protocol.specs.Words.{Bytes};
 ghost use Rattle.st_protocol.specs.Duty.{Deliver};
 ghost use Rattle.st_protocol.specs.World.{Deployment, Fault, TooMany, Pair, World, empty, dests_of, stepped, with_node, with_waiting, settled, sent_size, send_fault, sends_to, hands_out, plan_at, serves, delivers};
-ghost use Rattle.st_protocol.specs.Schedule.{is_built_line, Flowing, counts, flows, submits, goes, step, steps};
+ghost use Rattle.st_protocol.specs.Schedule.{sets_no_stop, Flowing, counts, flows, submits, goes, step, steps};
 ghost use Rattle.st_protocol.specs.Report.{came_from};
 ghost use Rattle.st_protocol.specs.Plain.{ArePlain};
 
@@ -36,7 +36,7 @@ pub fn ended_worlds_stay_ended<Wire>()
 {}
 
 /// Where no body is written, every server goes on running, with no stop set and an empty journal,
-/// through deliveries, flows, clients' updates and the lines that are built.
+/// through deliveries, flows, clients' updates and all lines that set no stop.
 pub fn plain_worlds_stay_plain<Wire>()
     ensures delivered { (d : Deployment Wire) (world : World Wire) (to : Dest) (wire : Wire) →
         ((changes : List Change) → d.formats.body_size changes ≡ 0) → ArePlain world → ArePlain (delivers d world to wire).world }
@@ -45,7 +45,7 @@ pub fn plain_worlds_stay_plain<Wire>()
     ensures submitted { (d : Deployment Wire) (world : World Wire) (client : ℕ) (op : Bytes) →
         ((changes : List Change) → d.formats.body_size changes ≡ 0) → ArePlain world → ArePlain (submits d world client op).world }
     ensures stepped { (d : Deployment Wire) (world : World Wire) (line : Line) →
-        ((changes : List Change) → d.formats.body_size changes ≡ 0) → is_built_line line ≡ true → ArePlain world → ArePlain (step d world line).world }
+        ((changes : List Change) → d.formats.body_size changes ≡ 0) → sets_no_stop line ≡ true → ArePlain world → ArePlain (step d world line).world }
 {}
 
 /// A flow delivers the oldest pair and goes on from there. It does nothing where nothing waits, or where the
@@ -74,9 +74,9 @@ pub fn sends_of_no_bytes<Wire>()
 /// A world that goes on has sent no more than the most messages, and where no message has more than so many
 /// destinations, no more pairs wait than these make.
 pub fn worlds_stay_small<Wire>()
-    ensures sent { (d : Deployment Wire) (most : ℕ) (all : List Line) → All (λ line. is_built_line line ≡ true) all →
+    ensures sent { (d : Deployment Wire) (most : ℕ) (all : List Line) → All (λ line. sets_no_stop line ≡ true) all →
         ((to : Scope) → length (dests_of d to) ≤ most) → (steps d empty all).ended ≡ None → length (steps d empty all).sent ≤ MOST_MESSAGES }
-    ensures waiting { (d : Deployment Wire) (most : ℕ) (all : List Line) → All (λ line. is_built_line line ≡ true) all →
+    ensures waiting { (d : Deployment Wire) (most : ℕ) (all : List Line) → All (λ line. sets_no_stop line ≡ true) all →
         ((to : Scope) → length (dests_of d to) ≤ most) → length (steps d empty all).waiting ≤ most * length (steps d empty all).sent }
 {}
 

@@ -16,12 +16,12 @@ use Rattle.st_schedule.specs.declared.done.Done.TheVariants as done
 use Rattle.st_protocol.specs.Keeping.{given}
 use Rattle.st_protocol.specs.State.{Seat}
 use Rattle.st_protocol.specs.Questions.{questions}
-use Rattle.st_protocol.specs.Duty.{Event, Tick}
-use Rattle.st_protocol.specs.World.{Deployment, Fault, BadReference, Running, Stopped, Full, Stand, Node, Pair, Customer, World, fresh_node, empty, is_nil, same_dest, stepped, seat_of, with_node, with_customer, with_waiting, uses_leaf, ends, hands, reads, pen_at, dests_of, sends_to, settled, is_full_by, is_stopped_by, stands_full, stands_stopped, plan_at, comes_to, by_stand, serves, delivers}
-use Rattle.st_protocol.specs.Schedule.{is_pair, without, drops, set_to_stop, restarted, then_assigns, seals, forged_by, timeout_event, is_reference, goes, step, goes_on, steps}
+use Rattle.st_protocol.specs.Duty.{Event}
+use Rattle.st_protocol.specs.World.{Deployment, Fault, Running, Stopped, Full, Stand, Node, Pair, Customer, World, fresh_node, empty, is_nil, seat_of, with_node, with_customer, with_waiting, uses_leaf, ends, hands, reads, pen_at, dests_of, sends_to, settled, is_full_by, is_stopped_by, stands_full, stands_stopped, plan_at, comes_to, by_stand, serves}
+use Rattle.st_protocol.specs.Schedule.{set_to_stop, restarted, then_assigns, seals, goes_on, steps}
 use Rattle.st_protocol.specs.Report.{answers_at}
 use Rattle.st_protocol.proofs.QuestionLaws.{one_body}
-use Rattle.st_flows.proofs.KeptLaws.{IsKept, if_kept, given_kept, delivers_kept, flows_kept, submits_kept}
+use Rattle.st_flows.proofs.KeptLaws.{IsKept, StopKept, if_kept, line_kept}
 use Rattle.st_flows.proofs.PlainKept.{nodes_hands_out}
 use Rattle.st_in_hand.specs.InHand.{IsUpToDate, ExecutesInHand, answers_hearing}
 use Rattle.st_in_hand.proofs.HeardLaws.{up_to_date_at_first}
@@ -134,23 +134,6 @@ module _ {Wire : Type 0} (d : Deployment Wire) where
   unfolding AreUpToDate uses_leaf
   up_uses_leaf world site index up = up
 
-  -- the parts of a delivery keep it
-  up_is_kept : IsKept d AreUpToDate
-  up_is_kept =
-      record {
-        serving = up_serves;
-        client = up_with_customer;
-        waiting = λ world first pairs is. up_with_waiting world pairs;
-        handing = up_hands;
-        sending = λ world wire to. up_sends_to world wire (dests_of d to);
-        ending = up_ends;
-      }
-
-  -- pairs that are lost
-  up_drops : (world : World Wire) (test : Pair → Bool) → AreUpToDate world → AreUpToDate (drops d world test).world
-  unfolding drops
-  up_drops world test up = up_with_waiting world (without test world.waiting) up
-
   -- a restart, with a failed event's changes or without
   up_restarted : (site index : ℕ) (node : Node) (kept : Bool) → IsServerUpToDate site index (restarted d node kept)
   up_restarted site index node kept = up_at_start site index (restarted d node kept) (by_apart (cond kept node.apart None))
@@ -172,37 +155,31 @@ module _ {Wire : Type 0} (d : Deployment Wire) where
   unfolding seals
   up_seals world site index s up = up_then_assigns _ s _ (up_sends_to (uses_leaf world site index) _ [] (up_uses_leaf world site index up))
 
+  -- the parts keep it
+  up_is_kept : IsKept d AreUpToDate
+  up_is_kept =
+      record {
+        serving = up_serves;
+        client = up_with_customer;
+        waiting = λ world pairs fewer. up_with_waiting world pairs;
+        handing = up_hands;
+        sending = λ world wire to. up_sends_to world wire (dests_of d to);
+        ending = up_ends;
+        restarting = λ world site index kept. up_with_node world site index (restarted d (world.nodes site index) kept) (up_restarted site index (world.nodes site index) kept);
+        sealing = up_seals;
+      }
+
   -- ---- the lines
 
-  up_goes : (world : World Wire) (line : Line) → AreUpToDate world → AreUpToDate (goes d world line).world
-  up_goes world (lines.Client client op) up = submits_kept d AreUpToDate up_is_kept world client.0 op up
-  up_goes world (lines.Deliver m to) up =
-      given_kept d AreUpToDate (slice_get world.sent m) (stepped world (done.Dropped 0)) (λ wire. delivers d (with_waiting world (without (is_pair m to) world.waiting)) to wire) up
-      (λ wire. delivers_kept d AreUpToDate up_is_kept (with_waiting world (without (is_pair m to) world.waiting)) to wire
-      (up_with_waiting world (without (is_pair m to) world.waiting) up))
-  up_goes world (lines.Drop m to) up = up_drops world (is_pair m to) up
-  up_goes world (lines.Lose to) up = up_drops world (λ p. same_dest p.to to) up
-  up_goes world (lines.Flow k) up = flows_kept d AreUpToDate up_is_kept k (record { world = world; pairs = 0; did = 0; ignored = 0 }) up
-  up_goes world (lines.Timeout server global) up = up_serves world server.site server.index (timeout_event global) up
-  up_goes world (lines.Tick server) up = up_serves world server.site server.index Tick up
-  up_goes world (lines.Stop server call) up =
+  -- a stop leaves what the server heard and recorded
+  up_stop : (world : World Wire) (line : Line) → AreUpToDate world → StopKept d AreUpToDate world line
+  up_stop world (lines.Stop server call) up =
       up_with_node world server.site server.index (set_to_stop (world.nodes server.site server.index) call) (up_to_date_at world up server.site server.index) up
-  up_goes world (lines.Restart server kept) up =
-      up_with_node world server.site server.index (restarted d (world.nodes server.site server.index) kept) (up_restarted server.site server.index (world.nodes server.site server.index) kept) up
-  up_goes world (lines.Seal server s) up = up_seals world server.site server.index s up
-  up_goes world (lines.Raw to bytes) up =
-      given_kept d AreUpToDate (forged_by d world (d.formats.read (d.formats.raw bytes))) (delivers d world to (d.formats.raw bytes)) (λ fault. stepped (ends world (Some fault)) (done.Dropped 0))
-      (delivers_kept d AreUpToDate up_is_kept world to (d.formats.raw bytes) up) (λ fault. up_ends world (Some fault) up)
-  up_goes world (lines.Show m) up =
-      given_kept d AreUpToDate (slice_get world.sent m) (stepped world (done.Dropped 0)) (λ wire. stepped world (done.Shown (d.formats.bytes wire))) up (λ wire. up)
-
-  up_step : (world : World Wire) (line : Line) → AreUpToDate world → AreUpToDate (step d world line).world
-  unfolding step
-  up_step world line up = if_kept d AreUpToDate (is_reference d world line) _ _ (up_goes world line up) (up_ends world (Some BadReference) up)
+  up_stop world _ up = tt
 
   up_steps : (world : World Wire) (all : List Line) → AreUpToDate world → AreUpToDate (steps d world all)
   up_steps world [] up = up
-  up_steps world (line ∷ more) up = up_steps (goes_on d world line) more (up_step world line up)
+  up_steps world (line ∷ more) up = up_steps (goes_on d world line) more (line_kept d AreUpToDate up_is_kept world line (up_stop world line up) up)
 
   -- at first
   up_empty : AreUpToDate (empty {Wire = Wire})

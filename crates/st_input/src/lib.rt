@@ -2,11 +2,15 @@
 #![tactic(auto)]
 
 mod events;
+mod fault;
 mod first;
 mod input;
+mod limits;
 mod parted;
 
-pub use input::{Input, InputError, InputLine, InputLines, MOST_INPUT, read_input};
+pub use fault::{InputError, InputFault};
+pub use input::{Input, InputLine, InputLines, read_input};
+pub use limits::{LONGEST_LINE, MOST_INPUT, MOST_LINES};
 
 #[cfg(test)]
 mod tests;

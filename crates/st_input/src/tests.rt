@@ -1,4 +1,4 @@
-use crate::{InputError, read_input};
+use crate::{InputError, InputFault, read_input};
 use st_schedule::Line;
 use std::test::Fail;
 
@@ -22,8 +22,15 @@ fn an_input_is_read(rt: HostRuntime) -> Result<(), Fail> {
 }
 
 #[test]
-fn an_input_without_a_separator_is_bad(rt: HostRuntime) -> Result<(), Fail> {
-    let read = read_input(rt.alloc(), HEADER.as_bytes());
-    assert!(rt; matches!(read, Err(InputError::BadInput)));
+fn the_first_fault_is_answered(rt: HostRuntime) -> Result<(), Fail> {
+    let alloc = rt.alloc();
+    let text = format!(in alloc; "{HEADER}---\n# first\nflow 050\nflow 051\n")?;
+    let read = read_input(alloc, text.as_bytes());
+    assert!(rt;
+        matches!(
+            read,
+            Err(InputError::Fault(InputFault::Grammar { line: 10 }))
+        )
+    );
     Ok(())
 }

@@ -82,6 +82,11 @@ module _ {A : Type 0} (G : A → Type 0) where
   append_all [] ys h k = k
   append_all (x ∷ xs) ys h k = (h.0, append_all xs ys h.1 k)
 
+  -- of each of two lists
+  pub append_parts : (xs ys : List A) → Each G (xs ++ ys) → Each G xs × Each G ys
+  append_parts [] ys h = (tt, h)
+  append_parts (x ∷ xs) ys h = let parts = append_parts xs ys h.1 in ((h.0, parts.0), parts.1)
+
   -- of one element, or none
   pub to_list_all : (x : Option A) → IfSome x G → Each G (to_list x)
   to_list_all None h = tt

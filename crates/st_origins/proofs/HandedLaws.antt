@@ -12,7 +12,7 @@ use Rattle.st_protocol.proofs.SameLaws.{same_who-Decides, same_statement-Decides
 use Rattle.st_origins.proofs.ChoiceLaws.{either}
 
 -- a seal, as it is noted
-abbrev noted : Who → ℕ → Statement → MadeSeal
+abbrev pub noted : Who → ℕ → Statement → MadeSeal
 noted who leaf s = record { who = who; leaf = leaf; statement = s }
 
 -- one of two tests, where the second may be replaced by one that follows from it

@@ -1,8 +1,9 @@
--- In a world of honest lines all values come from the updates that its clients handed out.
-use Rattle.std.proofs.Common.{◌≡◌, ℕ, ◌+◌, ◌-◌, Bool, true, false, IsTrue, cond, zero, suc, nat_eq, List, [], ◌∷◌, ◌++◌, refl, sym, subst, arith}
+-- In a world of covered lines all values come from the updates that its clients handed out.
+use Rattle.std.proofs.Common.{◌≡◌, ℕ, ◌+◌, ◌-◌, Bool, true, false, IsTrue, cond, zero, suc, nat_eq, List, [], ◌∷◌, ◌++◌, get_or, refl, sym, ◌∙◌, subst, arith, map, ap}
 use Rattle.std.specs.Prelude.{◌&&◌, Option, Some, None, is_some, nat_le, slice_get}
 use Rattle.std.specs.Option.{IfSome}
 use Rattle.std.specs.List.{AllByRecursion as Each, All, Contains}
+use Rattle.std.proofs.lemmas.Bool.{and_parts}
 use Rattle.std.proofs.lemmas.List.Elements.{All-from_recursion, recursion_from_All, All-weaker, All-contains}
 use Rattle.st_words.specs.declared.ids.Who.{Who}
 use Rattle.st_words.specs.declared.value.Update.{Update}
@@ -20,7 +21,7 @@ use Rattle.st_message.specs.declared.event.Scope.TheVariants as scopes
 use Rattle.st_message.specs.declared.change.Change.{Change}
 use Rattle.st_message.specs.declared.change.Change.TheVariants.{Executed}
 use Rattle.st_message.specs.declared.made.MadeSeal.{MadeSeal}
-use Rattle.st_message.specs.declared.reason.Reason.TheVariants.{Unknown, BadSeal}
+use Rattle.st_message.specs.declared.reason.Reason.TheVariants.{Unknown, BadSeal, NotMine}
 use Rattle.st_schedule.specs.declared.line.Dest.{Dest}
 use Rattle.st_schedule.specs.declared.line.Dest.TheVariants as dests
 use Rattle.st_schedule.specs.declared.line.Line.{Line}
@@ -29,15 +30,18 @@ use Rattle.st_schedule.specs.declared.done.Done.TheVariants as done
 use Rattle.st_protocol.specs.Words.{Bytes, server_at, client_at, an_update}
 use Rattle.st_protocol.specs.Keeping.{given, joined}
 use Rattle.st_protocol.specs.Questions.{values_by, executed_in, executed_values}
+use Rattle.st_protocol.specs.Known.{Sealed, seals_of}
 use Rattle.st_protocol.specs.Duty.{Event, Deliver, Tick, Reading, Faulty, Clean}
 use Rattle.st_protocol.specs.World.{Formats, passed, Deployment, Fault, BadReference, Stand, Running, Stopped, Full, Node, Pair, Answered, Customer, World, fresh_node, empty, is_nil, handed, Stepped, stepped, with_node, with_customer, with_waiting, ends, hands, bad_seal, with_known, with_seals, read_known, reads, seat_of, dests_of, sends_to, notes_seal, hands_one, hands_out, settled, is_full_by, is_stopped_by, stands_full, stands_stopped, comes_to, has_handed, pen_at, plan_at, by_stand, serves, with_reply, answered, awaits, on_checked_reply, on_reply, client_takes, delivers}
-use Rattle.st_protocol.specs.Schedule.{is_built_line, is_pair, without, drops, Flowing, counts, flows_first, flows, submits, set_to_stop, timeout_event, restarted, is_reference, goes, step, goes_on, steps}
+use Rattle.st_protocol.specs.Schedule.{is_pair, without, drops, Flowing, counts, flows_first, flows, submits, set_to_stop, timeout_event, restarted, forged_by, is_reference, goes, step, goes_on, steps}
 use Rattle.st_protocol.specs.World.{same_dest}
-use Rattle.st_origins.specs.Passes.{UpdatePasses, MessagePasses, ReadingPasses, EventPasses, ChangePasses, HeardPasses, OutputPasses, ListsPass, PlanPasses}
+use Rattle.st_origins.specs.Passes.{UpdatePasses, StatementPasses, MessagePasses, ReadingPasses, EventPasses, ChangePasses, HeardPasses, OutputPasses, ListsPass, PlanPasses}
 use Rattle.st_origins.specs.Origins.{IsHanded, comes_from_client, ReadsWhatIsSent, is_honest_line}
+use Rattle.st_origins.specs.Covers.{is_formed, without_place, HasNoFaulty, SealsCoverWire, SealsCover, IsCoveredLine, ReadsAsDefined, at_start, passed_as_defined}
 use Rattle.st_origins.proofs.ChoiceLaws.{either, chosen, chosen_any, either_has, append_all, joined_all, flat_map_all, found_has}
 use Rattle.st_origins.proofs.DutyLaws.{duty_passes}
-use Rattle.st_origins.proofs.HandedLaws.{handed_stays, handed_now}
+use Rattle.st_origins.proofs.HandedLaws.{noted, handed_stays, handed_now}
+use Rattle.st_origins.proofs.ForgeLaws.{MadePasses, unforged_passes}
 
 -- all values that a server's node holds
 pub record NodePasses (test : Value → Bool) (node : Node) : Type 0 where
@@ -45,10 +49,11 @@ pub record NodePasses (test : Value → Bool) (node : Node) : Type 0 where
   pub heard : Each (HeardPasses test) node.heard
   pub apart : IfSome node.apart (Each (ChangePasses test))
 
--- Each values that a world's servers hold, and all that were sent, pass the test.
+-- Each values that a world's servers hold, all that were sent, and all in what correct parties made, pass the test.
 pub record WorldPasses {Wire : Type 0} (d : Deployment Wire) (test : Value → Bool) (world : World Wire) : Type 0 where
   pub nodes : (site index : ℕ) → NodePasses test (world.nodes site index)
   pub sent : Each (λ wire. ReadingPasses test (d.formats.read wire)) world.sent
+  pub made : Each (MadePasses test) world.made
 
 module _ {Wire : Type 0} (d : Deployment Wire) (test : Value → Bool) where
   -- every update that was handed out passes the test
@@ -109,7 +114,7 @@ module _ {Wire : Type 0} (d : Deployment Wire) (test : Value → Bool) where
   node_passes : (world : World Wire) (site index : ℕ) (node : Node) → NodePasses test node → WorldPasses d test world → WorldPasses d test (with_node world site index node)
   unfolding with_node
   node_passes world site index node n w =
-      record { nodes = λ s i. either (NodePasses test) (nat_eq site s && nat_eq index i) node (world.nodes s i) n (w.nodes s i); sent = w.sent }
+      record { nodes = λ s i. either (NodePasses test) (nat_eq site s && nat_eq index i) node (world.nodes s i) n (w.nodes s i); sent = w.sent; made = w.made }
 
   -- a server is changed, and what it holds is known where every update that was handed out passes
   node_passing : (world : World Wire) (site index : ℕ) (node : Node) → (Covers world.made → NodePasses test node) → Passing world → Passing (with_node world site index node)
@@ -119,34 +124,42 @@ module _ {Wire : Type 0} (d : Deployment Wire) (test : Value → Bool) where
   -- a client is changed
   customer_passing : (world : World Wire) (client : ℕ) (customer : Customer) → Passing world → Passing (with_customer world client customer)
   unfolding with_customer
-  customer_passing world client customer w covers = let at : WorldPasses d test world = w covers in record { nodes = at.nodes; sent = at.sent }
+  customer_passing world client customer w covers = let at : WorldPasses d test world = w covers in record { nodes = at.nodes; sent = at.sent; made = at.made }
 
   -- other pairs wait
   waiting_passing : (world : World Wire) (pairs : List Pair) → Passing world → Passing (with_waiting world pairs)
   unfolding with_waiting
-  waiting_passing world pairs w covers = let at : WorldPasses d test world = w covers in record { nodes = at.nodes; sent = at.sent }
+  waiting_passing world pairs w covers = let at : WorldPasses d test world = w covers in record { nodes = at.nodes; sent = at.sent; made = at.made }
 
   -- the world ends
   ends_passing : (world : World Wire) (fault : Option Fault) → Passing world → Passing (ends world fault)
   unfolding ends
-  ends_passing world fault w covers = let at : WorldPasses d test world = w covers in record { nodes = at.nodes; sent = at.sent }
+  ends_passing world fault w covers = let at : WorldPasses d test world = w covers in record { nodes = at.nodes; sent = at.sent; made = at.made }
 
   -- what is handed out covers what was before
   covers_before : (world : World Wire) (who : Who) (leaf : ℕ) (s : Statement) → Covers (hands world who leaf s).made → Covers world.made
   covers_before world who leaf s covers u h = covers u (handed_stays world who leaf s (client_at u.client.0) (u.time - 1) (ClientUpdate u) h)
 
   -- a seal is handed out
-  hands_passing : (world : World Wire) (who : Who) (leaf : ℕ) (s : Statement) → Passing world → Passing (hands world who leaf s)
+  hands_passing : (world : World Wire) (who : Who) (leaf : ℕ) (s : Statement) → (Covers (hands world who leaf s).made → StatementPasses test s) → Passing world →
+      Passing (hands world who leaf s)
   unfolding hands
-  hands_passing world who leaf s w covers =
-      let at : WorldPasses d test world = w (covers_before world who leaf s covers) in record { nodes = at.nodes; sent = at.sent }
+  hands_passing world who leaf s h w covers =
+      let at : WorldPasses d test world = w (covers_before world who leaf s covers) in
+      record {
+        nodes = at.nodes;
+        sent = at.sent;
+        made =
+            either (Each (MadePasses test)) (has_handed world.made who leaf s) world.made (world.made ++ noted who leaf s ∷ []) at.made
+            (append_all (MadePasses test) world.made (noted who leaf s ∷ []) at.made (h covers, tt));
+      }
 
   -- a message is sent
   sends_passing : (world : World Wire) (wire : Wire) (to : List Dest) → (Covers world.made → WirePasses wire) → Passing world → Passing (sends_to d world wire to)
   unfolding sends_to
   sends_passing world wire to m w covers =
       let at : WorldPasses d test world = w covers in
-      record { nodes = at.nodes; sent = append_all WirePasses world.sent (wire ∷ []) at.sent (m covers, tt) }
+      record { nodes = at.nodes; sent = append_all WirePasses world.sent (wire ∷ []) at.sent (m covers, tt); made = at.made }
 
   module _ (same : ReadsWhatIsSent d) where
     -- ---- a server's messages
@@ -169,15 +182,25 @@ module _ {Wire : Type 0} (d : Deployment Wire) (test : Value → Bool) where
         by (Some n) None covers = covers
         by (Some n) (Some s) covers = covers_before world (server_at site index) n s covers
 
+    -- the statement that a server's own message seals
+    own_passes : (site : ℕ) (m : Message) → MessagePasses test m → IfSome (handed site m) (StatementPasses test)
+    own_passes site (messages.Assign view local number value client_seal signed) h = h
+    own_passes site (messages.Share s signed) h = h
+    own_passes site (messages.Report r) h = h.0
+    own_passes site (messages.Reply s signed) h = h
+    own_passes site _ h = tt
+
     -- a server's own seal is noted
-    notes_passing : (site index : ℕ) (world : World Wire) (o : Output) → Passing world → Passing (notes_seal d site index world o)
+    notes_passing : (site index : ℕ) (world : World Wire) (o : Output) → (Covers world.made → OutputPasses test o) → Passing world → Passing (notes_seal d site index world o)
     unfolding notes_seal
-    notes_passing site index world o w = by o.leaf (handed site o.message)
+    notes_passing site index world o h w = by o.leaf (handed site o.message) (λ covers. own_passes site o.message (h covers))
       where
-        by : (leaf : Option ℕ) (x : Option Statement) → Passing (given leaf world (λ n. given x world (λ s. hands world (server_at site index) n s)))
-        by None x = w
-        by (Some n) None = w
-        by (Some n) (Some s) = hands_passing world (server_at site index) n s w
+        by : (leaf : Option ℕ) (x : Option Statement) → (Covers world.made → IfSome x (StatementPasses test)) →
+            Passing (given leaf world (λ n. given x world (λ s. hands world (server_at site index) n s)))
+        by None x own = w
+        by (Some n) None own = w
+        by (Some n) (Some s) own =
+            hands_passing world (server_at site index) n s (λ covers. own (covers_before world (server_at site index) n s covers)) w
 
     -- so before one message
     one_covers : (site index : ℕ) (world : World Wire) (o : Output) → Covers (hands_one d site index world o).made → Covers world.made
@@ -189,7 +212,7 @@ module _ {Wire : Type 0} (d : Deployment Wire) (test : Value → Bool) where
     unfolding hands_one
     one_passing site index world o h w =
         sends_passing (notes_seal d site index world o) (d.formats.encode o.message) (dests_of d o.to)
-        (λ covers. encode_passes o.message (h (notes_covers site index world o covers))) (notes_passing site index world o w)
+        (λ covers. encode_passes o.message (h (notes_covers site index world o covers))) (notes_passing site index world o h w)
 
     -- messages of a server's are handed out
     out_passing : (site index : ℕ) (world : World Wire) (outputs : List Output) → (Covers world.made → Each (OutputPasses test) outputs) → Passing world →
@@ -271,11 +294,10 @@ module _ {Wire : Type 0} (d : Deployment Wire) (test : Value → Bool) where
       client_passing world client (Clean _) w = w
 
       -- a message is delivered
-      delivers_passing : (world : World Wire) (to : Dest) (wire : Wire) → (Covers world.made → WirePasses wire) → Passing world → PassingAfter (delivers d world to wire)
+      delivers_passing : (world : World Wire) (to : Dest) (wire : Wire) → (Covers world.made → ReadingPasses test (reads d wire)) → Passing world →
+          PassingAfter (delivers d world to wire)
       unfolding delivers
-      delivers_passing world (dests.Server server) wire m w =
-          serves_passing world server.site server.index (Deliver wire)
-          (λ covers. seals_pass (with_known d (d.formats.read wire)) (known_passes (d.formats.read wire) (m covers))) w
+      delivers_passing world (dests.Server server) wire m w = serves_passing world server.site server.index (Deliver wire) m w
       delivers_passing world (dests.Client client) wire m w = client_passing world client.0 (read_known d wire) w
 
       -- a message that was sent
@@ -287,7 +309,19 @@ module _ {Wire : Type 0} (d : Deployment Wire) (test : Value → Bool) where
           PassingAfter (delivers d (with_waiting world pairs) to wire)
       unfolding with_waiting
       sent_passing world pairs n to wire e w =
-          delivers_passing (with_waiting world pairs) to wire (λ covers. sent_passes world.sent n wire e (w covers).sent) (waiting_passing world pairs w)
+          delivers_passing (with_waiting world pairs) to wire
+          (λ covers. seals_pass (with_known d (d.formats.read wire)) (known_passes (d.formats.read wire) (sent_passes world.sent n wire e (w covers).sent)))
+          (waiting_passing world pairs w)
+
+      -- bytes from outside
+      raw_passing : (world : World Wire) (to : Dest) (wire : Wire) → SealsCoverWire d wire → Passing world →
+          PassingAfter (given (forged_by d world (d.formats.read wire)) (delivers d world to wire) (λ fault. stepped (ends world (Some fault)) (done.Dropped 0)))
+      raw_passing world to wire covered w = by (forged_by d world (d.formats.read wire)) refl
+        where
+          by : (fault : Option Fault) → forged_by d world (d.formats.read wire) ≡ fault →
+              PassingAfter (given fault (delivers d world to wire) (λ found. stepped (ends world (Some found)) (done.Dropped 0)))
+          by None e = delivers_passing world to wire (λ covers. unforged_passes test d world (w covers).made (d.formats.read wire) e covered) w
+          by (Some fault) e = ends_passing world (Some fault) w
 
       -- ---- the lines
 
@@ -316,15 +350,15 @@ module _ {Wire : Type 0} (d : Deployment Wire) (test : Value → Bool) where
           let waits : Customer = record { time = used + 1; waits = true; replies = λ s i. None; result = None } in
           let asks : World Wire = with_customer world client waits in
           let next : used + 1 - 1 ≡ used = omega arith in
+          let asked : Covers (hands asks (client_at client) used (ClientUpdate update)).made → UpdatePasses test update = λ covers.
+          covers update
+          (subst (λ leaf. IsTrue (has_handed (hands asks (client_at client) used (ClientUpdate update)).made (client_at client) leaf (ClientUpdate update))) (sym next)
+          (handed_now asks (client_at client) used (ClientUpdate update))) in
           either PassingAfter (nat_le d.capacity used) _ _ w
           (sends_passing (hands asks (client_at client) used (ClientUpdate update))
           (d.formats.encode (messages.Update update (d.formats.seal (client_at client) used (ClientUpdate update)))) (dests_of d scopes.All)
-          (λ covers.
-          encode_passes (messages.Update update (d.formats.seal (client_at client) used (ClientUpdate update)))
-          (covers update
-          (subst (λ leaf. IsTrue (has_handed (hands asks (client_at client) used (ClientUpdate update)).made (client_at client) leaf (ClientUpdate update))) (sym next)
-          (handed_now asks (client_at client) used (ClientUpdate update)))))
-          (hands_passing asks (client_at client) used (ClientUpdate update) (customer_passing world client waits w)))
+          (λ covers. encode_passes (messages.Update update (d.formats.seal (client_at client) used (ClientUpdate update))) (asked covers))
+          (hands_passing asks (client_at client) used (ClientUpdate update) asked (customer_passing world client waits w)))
 
       -- a timeout
       timeout_passes : (global : Bool) → EventPasses test (reads d) (timeout_event global)
@@ -337,51 +371,54 @@ module _ {Wire : Type 0} (d : Deployment Wire) (test : Value → Bool) where
       drops_passing world lost w = waiting_passing world (without lost world.waiting) w
 
       -- a line
-      goes_passing : (world : World Wire) (line : Line) → is_honest_line line ≡ true → Passing world → PassingAfter (goes d world line)
-      goes_passing world (lines.Client client op) honest w = submits_passing world client.0 op w
-      goes_passing world (lines.Deliver m to) honest w = by (slice_get world.sent m) refl
+      goes_passing : (world : World Wire) (line : Line) → is_reference d world line ≡ true → IsCoveredLine d line → Passing world → PassingAfter (goes d world line)
+      goes_passing world (lines.Client client op) there covered w = submits_passing world client.0 op w
+      goes_passing world (lines.Deliver m to) there covered w = by (slice_get world.sent m) refl
         where
           by : (x : Option Wire) → slice_get world.sent m ≡ x →
               PassingAfter (given x (stepped world (done.Dropped 0)) (λ wire. delivers d (with_waiting world (without (is_pair m to) world.waiting)) to wire))
           by None e = w
           by (Some wire) e = sent_passing world (without (is_pair m to) world.waiting) m to wire e w
-      goes_passing world (lines.Drop m to) honest w = drops_passing world (is_pair m to) w
-      goes_passing world (lines.Lose to) honest w = drops_passing world (λ p. same_dest p.to to) w
-      goes_passing world (lines.Flow k) honest w = flows_passing k (record { world = world; pairs = 0; did = 0; ignored = 0 }) w
-      goes_passing world (lines.Timeout server global) honest w =
+      goes_passing world (lines.Drop m to) there covered w = drops_passing world (is_pair m to) w
+      goes_passing world (lines.Lose to) there covered w = drops_passing world (λ p. same_dest p.to to) w
+      goes_passing world (lines.Flow k) there covered w = flows_passing k (record { world = world; pairs = 0; did = 0; ignored = 0 }) w
+      goes_passing world (lines.Timeout server global) there covered w =
           serves_passing world server.site server.index (timeout_event global) (λ covers. timeout_passes global) w
-      goes_passing world (lines.Tick server) honest w = serves_passing world server.site server.index Tick (λ covers. tt) w
-      goes_passing world (lines.Stop server call) honest w =
+      goes_passing world (lines.Tick server) there covered w = serves_passing world server.site server.index Tick (λ covers. tt) w
+      goes_passing world (lines.Stop server call) there covered w =
           node_passing world server.site server.index (set_to_stop (world.nodes server.site server.index) call)
           (λ covers. stop_passes (world.nodes server.site server.index) call ((w covers).nodes server.site server.index)) w
-      goes_passing world (lines.Restart server kept) honest w =
+      goes_passing world (lines.Restart server kept) there covered w =
           node_passing world server.site server.index (restarted d (world.nodes server.site server.index) kept)
           (λ covers. restarted_passes (world.nodes server.site server.index) kept ((w covers).nodes server.site server.index)) w
-      goes_passing world (lines.Seal server s) honest w = absurd (let no : false ≡ true = honest in cc)
-      goes_passing world (lines.Raw to bytes) honest w = absurd (let no : false ≡ true = honest in cc)
-      goes_passing world (lines.Show m) honest w =
+      goes_passing world (lines.Seal server s) there covered w =
+          absurd (let no : false ≡ true = sym covered ∙ (and_parts _ _ (and_parts _ _ there).0).0 in cc)
+      goes_passing world (lines.Raw to bytes) there covered w = raw_passing world to (d.formats.raw bytes) covered w
+      goes_passing world (lines.Show m) there covered w =
           chosen_any PassingAfter (slice_get world.sent m) (stepped world (done.Dropped 0)) (λ wire. stepped world (done.Shown (d.formats.bytes wire))) w (λ wire. w)
 
       -- a line, whether or not what it names is there
-      step_passing : (world : World Wire) (line : Line) → is_honest_line line ≡ true → Passing world → PassingAfter (step d world line)
+      step_passing : (world : World Wire) (line : Line) → IsCoveredLine d line → Passing world → PassingAfter (step d world line)
       unfolding step
-      step_passing world line honest w =
-          either PassingAfter (is_reference d world line) (goes d world line) (stepped (ends world (Some BadReference)) (done.Dropped 0))
-          (goes_passing world line honest w) (ends_passing world (Some BadReference) w)
+      step_passing world line covered w = by (is_reference d world line) refl
+        where
+          by : (b : Bool) → is_reference d world line ≡ b → PassingAfter (cond b (goes d world line) (stepped (ends world (Some BadReference)) (done.Dropped 0)))
+          by true there = goes_passing world line there covered w
+          by false there = ends_passing world (Some BadReference) w
 
       -- lines in order
-      steps_passing : (world : World Wire) (all : List Line) → Each (λ line. is_honest_line line ≡ true) all → Passing world → Passing (steps d world all)
-      steps_passing world [] honest w = w
-      steps_passing world (line ∷ more) honest w = steps_passing (goes_on d world line) more honest.1 (step_passing world line honest.0 w)
+      steps_passing : (world : World Wire) (all : List Line) → Each (IsCoveredLine d) all → Passing world → Passing (steps d world all)
+      steps_passing world [] covered w = w
+      steps_passing world (line ∷ more) covered w = steps_passing (goes_on d world line) more covered.1 (step_passing world line covered.0 w)
 
       -- before the first line
       empty_passing : Passing empty
       unfolding empty fresh_node
-      empty_passing covers = record { nodes = λ site index. record { bodies = tt; heard = tt; apart = tt }; sent = tt }
+      empty_passing covers = record { nodes = λ site index. record { bodies = tt; heard = tt; apart = tt }; sent = tt; made = tt }
 
       -- In the world of these lines.
-      pub world_passing : (all : List Line) → Each (λ line. is_honest_line line ≡ true) all → Passing (steps d empty all)
-      world_passing all honest = steps_passing empty all honest empty_passing
+      pub world_passing : (all : List Line) → Each (IsCoveredLine d) all → Passing (steps d empty all)
+      world_passing all covered = steps_passing empty all covered empty_passing
 
 -- ---- executed values
 
@@ -399,25 +436,34 @@ module _ (test : Value → Bool) where
 
 -- ---- the laws
 
--- a line that is built is honest
-built_is_honest : (line : Line) → is_built_line line ≡ true → is_honest_line line ≡ true
-built_is_honest (lines.Client client op) built = refl
-built_is_honest (lines.Flow k) built = refl
-built_is_honest (lines.Show m) built = refl
-built_is_honest _ built = absurd (let no : false ≡ true = built in cc)
+module _ {Wire : Type 0} (d : Deployment Wire) where
+  -- a line that is honest in any deployment
+  pub honest_covered : (line : Line) → is_honest_line line ≡ true → IsCoveredLine d line
+  honest_covered (lines.Seal server s) honest = absurd (let no : false ≡ true = honest in cc)
+  honest_covered (lines.Raw to bytes) honest = absurd (let no : false ≡ true = honest in cc)
+  honest_covered _ honest = tt
 
--- So are all.
-pub built_are_honest : (all : List Line) → All (λ line. is_built_line line ≡ true) all → All (λ line. is_honest_line line ≡ true) all
-built_are_honest all built = All-weaker (λ line. is_built_line line ≡ true) (λ line. is_honest_line line ≡ true) built_is_honest all built
+  -- any line, where no server is faulty and seals cover what is read
+  pub correct_covered : HasNoFaulty d → SealsCover d → (line : Line) → IsCoveredLine d line
+  correct_covered none cover (lines.Seal server s) = none server.site server.index
+  correct_covered none cover (lines.Raw to bytes) = cover (d.formats.raw bytes)
+  correct_covered none cover _ = tt
 
-module _ {Wire : Type 0} (d : Deployment Wire) (all : List Line) (same : ReadsWhatIsSent d) (honest : All (λ line. is_honest_line line ≡ true) all) where
+  -- lists of them
+  pub honest_lines_covered : (all : List Line) → All (λ line. is_honest_line line ≡ true) all → All (IsCoveredLine d) all
+  honest_lines_covered all honest = All-weaker (λ line. is_honest_line line ≡ true) (IsCoveredLine d) honest_covered all honest
+
+  pub correct_lines_covered : (all : List Line) → HasNoFaulty d → SealsCover d → All (IsCoveredLine d) all
+  correct_lines_covered all none cover = λ k line below. correct_covered none cover (get_or all k line)
+
+module _ {Wire : Type 0} (d : Deployment Wire) (all : List Line) (same : ReadsWhatIsSent d) (covered : All (IsCoveredLine d) all) where
   -- the test of what was handed out in the end
   abbrev handed_in_the_end : Value → Bool
   handed_in_the_end = comes_from_client (steps d empty all).made
 
   -- all values in the world
   world_passes : WorldPasses d handed_in_the_end (steps d empty all)
-  world_passes = world_passing d handed_in_the_end same refl all (recursion_from_All (λ line. is_honest_line line ≡ true) all honest) (λ u h. h)
+  world_passes = world_passing d handed_in_the_end same refl all (recursion_from_All (IsCoveredLine d) all covered) (λ u h. h)
 
   -- Each that a server recorded and heard.
   pub lists_handed : (site index : ℕ) → ListsPass handed_in_the_end ((steps d empty all).nodes site index).bodies ((steps d empty all).nodes site index).heard
@@ -427,14 +473,56 @@ module _ {Wire : Type 0} (d : Deployment Wire) (all : List Line) (same : ReadsWh
   pub sent_handed : All (λ wire. ReadingPasses handed_in_the_end (d.formats.read wire)) (steps d empty all).sent
   sent_handed = All-from_recursion (λ wire. ReadingPasses handed_in_the_end (d.formats.read wire)) (steps d empty all).sent world_passes.sent
 
+  -- Each in what correct parties made.
+  pub made_handed : All (λ x. StatementPasses handed_in_the_end x.statement) (steps d empty all).made
+  made_handed = All-from_recursion (MadePasses handed_in_the_end) (steps d empty all).made world_passes.made
+
   -- Each updates in a server's log.
-  pub executed_handed : (site index : ℕ) (u : Update) → Contains (executed_values ((steps d empty all).nodes site index).bodies) (values.Update u) → IsHanded (steps d empty all).made u
-  executed_handed site index u found =
+  pub executed_covered : (site index : ℕ) (u : Update) → Contains (executed_values ((steps d empty all).nodes site index).bodies) (values.Update u) → IsHanded (steps d empty all).made u
+  executed_covered site index u found =
       let log : List Value = executed_values ((steps d empty all).nodes site index).bodies in
       All-contains (λ v. IsTrue (handed_in_the_end v)) log (values.Update u)
       (All-from_recursion (λ v. IsTrue (handed_in_the_end v)) log (executed_pass handed_in_the_end ((steps d empty all).nodes site index).bodies (world_passes.nodes site index).bodies)) found
+
+-- So of honest lines.
+pub executed_handed : {Wire : Type 0} (d : Deployment Wire) (all : List Line) → ReadsWhatIsSent d → All (λ line. is_honest_line line ≡ true) all → (site index : ℕ) (u : Update) →
+    Contains (executed_values ((steps d empty all).nodes site index).bodies) (values.Update u) → IsHanded (steps d empty all).made u
+executed_handed d all same honest site index u found = executed_covered d all same (honest_lines_covered d all honest) site index u found
 
 -- Messages that are passed as they are.
 pub passed_reads_same : (d : Deployment Message) (seal : Who → ℕ → Statement → Bytes) (knows : Message → Bool) → d.formats ≡ record (passed seal) { knows = knows } → ReadsWhatIsSent d
 passed_reads_same d seal knows e =
     subst (λ (formats : Formats Message). ReadsWhatIsSent (record d { formats = formats })) (sym e) (record { same = λ m n is. let clean : Clean m ≡ Clean n = is in cc })
+
+-- ---- an example of formats that read as defined
+
+-- seals that are given places, and lose them
+placed : (seals : List Sealed) → map without_place (map at_start seals) ≡ seals
+placed [] = refl
+placed (x ∷ xs) = ap (λ (more : List Sealed). x ∷ more) (placed xs)
+
+-- what is read is formed
+formed_read : (m n : Message) → cond (is_formed m) (Clean m) (Faulty NotMine) ≡ Clean n → (is_formed m ≡ true) × (n ≡ m)
+formed_read m n = by (is_formed m) refl
+  where
+    by : (b : Bool) → is_formed m ≡ b → cond b (Clean m) (Faulty NotMine) ≡ Clean n → (is_formed m ≡ true) × (n ≡ m)
+    by true is e = (is, let clean : Clean m ≡ Clean n = e in cc)
+    by false is e = absurd (let no : Faulty NotMine ≡ Clean n = e in cc)
+
+module _ (d : Deployment Message) (seal : Who → ℕ → Statement → Bytes) (holds : Who → Statement → Bytes → Bool)
+    (e : d.formats ≡ passed_as_defined d.sites d.f d.clients seal holds) where
+  -- Messages are read as they were sent.
+  pub example_sent : ReadsWhatIsSent d
+  example_sent =
+      subst (λ (formats : Formats Message). ReadsWhatIsSent (record d { formats = formats })) (sym e) (record { same = λ m n is. (formed_read m n is).1 })
+
+  -- And as defined.
+  pub example_defined : ReadsAsDefined d
+  example_defined =
+      subst (λ (formats : Formats Message). ReadsAsDefined (record d { formats = formats })) (sym e)
+      (λ m n is.
+      record {
+        formed = subst (λ (x : Message). is_formed x ≡ true) (sym (formed_read m n is).1) (formed_read m n is).0;
+        known = λ h. h;
+        seals = placed (seals_of d.sites n);
+      })

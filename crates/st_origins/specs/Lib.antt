@@ -1,3 +1,4 @@
 -- The definitions that contracts cite.
 pub mod Passes
 pub mod Origins
+pub mod Covers

@@ -1,7 +1,7 @@
 //! Where the values that servers execute come from: each law is the contract of a function that has nothing to do.
 #![tactic(auto)]
 
-ghost use Rattle.std.specs.Prelude.{◌≡◌, ℕ, Bool, true, IsTrue, List};
+ghost use Rattle.std.specs.Prelude.{◌≡◌, ◌≤◌, ℕ, Bool, true, IsTrue, List};
 ghost use Rattle.std.specs.List.{All, Contains};
 ghost use Rattle.st_words.specs.declared.ids.Who.{Who};
 ghost use Rattle.st_words.specs.declared.value.Update.{Update};
@@ -16,10 +16,12 @@ ghost use Rattle.st_protocol.specs.Words.{Bytes};
 ghost use Rattle.st_protocol.specs.State.{Seat};
 ghost use Rattle.st_protocol.specs.Questions.{executed_values};
 ghost use Rattle.st_protocol.specs.Duty.{Event, Reading, Pen, duty};
+ghost use Rattle.st_protocol.specs.Known.{knows, seals_of};
 ghost use Rattle.st_protocol.specs.World.{Deployment, passed, empty};
-ghost use Rattle.st_protocol.specs.Schedule.{is_built_line, steps};
-ghost use Rattle.st_origins.specs.Passes.{ReadingPasses, EventPasses, ListsPass, PlanPasses};
+ghost use Rattle.st_protocol.specs.Schedule.{steps};
+ghost use Rattle.st_origins.specs.Passes.{StatementPasses, ReadingPasses, EventPasses, ListsPass, PlanPasses};
 ghost use Rattle.st_origins.specs.Origins.{IsHanded, comes_from_client, ReadsWhatIsSent, is_honest_line};
+ghost use Rattle.st_origins.specs.Covers.{is_party, IsCovered, is_formed, HasNoFaulty, HasFewFaulty, SealsCoverMessage, SealsCover, IsCoveredLine, StandsByQuorums, IsAsDefined, ReadsAsDefined, passed_as_defined};
 
 /// A server's duty makes up no value: whatever test no-ops pass, all values that a plan records, keeps or sends
 /// pass it, where all that the server recorded and heard and all that is delivered do. So it is at every event
@@ -30,19 +32,25 @@ pub fn duties_make_up_no_value<Wire>()
 {}
 
 /// Every update in a server's log was handed out by its client: the client's own seal over it, with the leaf of
-/// the update's time. So it is in every world of lines at which no faulty server seals and no bytes come from
-/// outside, among them the worlds of the lines that are built today, for any number of sites, servers and faults.
+/// the update's time. So it is for any number of sites, servers and faults, in every world of lines at which no
+/// faulty server seals, and no bytes come from outside (`honest`), or only such bytes of which each value is in a
+/// statement under a seal that is named as of a correct party (`covered`); and where no server is faulty and
+/// seals cover what is read, whatever lines come (`correct`).
 pub fn executed_updates_are_handed_out<Wire>()
     ensures honest { (d : Deployment Wire) (all : List Line) (site index : ℕ) (u : Update) →
         ReadsWhatIsSent d → All (λ line. is_honest_line line ≡ true) all →
         Contains (executed_values ((steps d empty all).nodes site index).bodies) (values.Update u) → IsHanded (steps d empty all).made u }
-    ensures built { (d : Deployment Wire) (all : List Line) (site index : ℕ) (u : Update) →
-        ReadsWhatIsSent d → All (λ line. is_built_line line ≡ true) all →
+    ensures covered { (d : Deployment Wire) (all : List Line) (site index : ℕ) (u : Update) →
+        ReadsWhatIsSent d → All (IsCoveredLine d) all →
+        Contains (executed_values ((steps d empty all).nodes site index).bodies) (values.Update u) → IsHanded (steps d empty all).made u }
+    ensures correct { (d : Deployment Wire) (all : List Line) (site index : ℕ) (u : Update) →
+        ReadsWhatIsSent d → HasNoFaulty d → SealsCover d →
         Contains (executed_values ((steps d empty all).nodes site index).bodies) (values.Update u) → IsHanded (steps d empty all).made u }
 {}
 
-/// In such a world all values that servers recorded or heard, and all that were sent, are no-ops and updates
-/// that their clients handed out.
+/// In a world of honest lines all values that servers recorded or heard, and all that were sent, are no-ops and
+/// updates that their clients handed out. So it is in a world of covered lines, and of all values in statements
+/// that correct parties made.
 pub fn worlds_hold_what_was_handed_out<Wire>()
     ensures lists { (d : Deployment Wire) (all : List Line) (site index : ℕ) →
         ReadsWhatIsSent d → All (λ line. is_honest_line line ≡ true) all →
@@ -50,6 +58,51 @@ pub fn worlds_hold_what_was_handed_out<Wire>()
     ensures sent { (d : Deployment Wire) (all : List Line) →
         ReadsWhatIsSent d → All (λ line. is_honest_line line ≡ true) all →
         All (λ wire. ReadingPasses (comes_from_client (steps d empty all).made) (d.formats.read wire)) (steps d empty all).sent }
+    ensures covered_lists { (d : Deployment Wire) (all : List Line) (site index : ℕ) →
+        ReadsWhatIsSent d → All (IsCoveredLine d) all →
+        ListsPass (comes_from_client (steps d empty all).made) ((steps d empty all).nodes site index).bodies ((steps d empty all).nodes site index).heard }
+    ensures covered_sent { (d : Deployment Wire) (all : List Line) →
+        ReadsWhatIsSent d → All (IsCoveredLine d) all →
+        All (λ wire. ReadingPasses (comes_from_client (steps d empty all).made) (d.formats.read wire)) (steps d empty all).sent }
+    ensures covered_made { (d : Deployment Wire) (all : List Line) →
+        ReadsWhatIsSent d → All (IsCoveredLine d) all →
+        All (λ x. StatementPasses (comes_from_client (steps d empty all).made) x.statement) (steps d empty all).made }
+{}
+
+/// Honest lines are covered in any deployment. Where no server is faulty, and each value in what is read and known
+/// is in a statement under one of its seals, every line is: a faulty server's seal is then a bad reference, and
+/// bytes from outside with a forged seal end the world.
+pub fn lines_are_covered<Wire>()
+    ensures honest { (d : Deployment Wire) (line : Line) → is_honest_line line ≡ true → IsCoveredLine d line }
+    ensures correct { (d : Deployment Wire) (line : Line) → HasNoFaulty d → SealsCover d → IsCoveredLine d line }
+{}
+
+/// Each value in a message that a deployment knows is in a statement under one of its seals that is named as of a
+/// party of the deployment, if its statements stand where they may: for any number of sites but 0, any f and any
+/// number of clients.
+pub fn seals_cover_values()
+    ensures { (sites f clients : ℕ) (m : Message) → 1 ≤ sites → is_formed m ≡ true → knows sites f clients m ≡ true →
+        IsCovered (is_party sites f clients) (seals_of sites m) m }
+{}
+
+/// So seals cover what is read in a deployment without faulty servers, if its formats read as defined.
+pub fn correct_deployments_cover<Wire>()
+    ensures { (d : Deployment Wire) → 1 ≤ d.sites → HasNoFaulty d → ReadsAsDefined d → SealsCover d }
+{}
+
+/// With faulty servers, at most f of a site, seals cover a message that holds no value but its client's own or
+/// such as stand under Quorums in which no server sealed twice: a client's update, a certificate, an order proof,
+/// a proof of a view. So lines of such bytes are covered.
+pub fn quorums_cover_values<Wire>()
+    ensures { (d : Deployment Wire) (m : Message) → HasFewFaulty d → IsAsDefined d m → d.formats.knows m ≡ true → StandsByQuorums m → SealsCoverMessage d m }
+{}
+
+/// Formats that read as defined, and what was sent as it was sent, can be had, for any seals.
+pub fn messages_passed_as_defined()
+    ensures sent { (d : Deployment Message) (seal : Who → ℕ → Statement → Bytes) (holds : Who → Statement → Bytes → Bool) →
+        d.formats ≡ passed_as_defined d.sites d.f d.clients seal holds → ReadsWhatIsSent d }
+    ensures defined { (d : Deployment Message) (seal : Who → ℕ → Statement → Bytes) (holds : Who → Statement → Bytes → Bool) →
+        d.formats ≡ passed_as_defined d.sites d.f d.clients seal holds → ReadsAsDefined d }
 {}
 
 /// Messages that are passed as they are, whatever is known of the deployment, are read as they were sent.
@@ -69,6 +122,11 @@ mod tests {
         duties_make_up_no_value::<Message>();
         executed_updates_are_handed_out::<Message>();
         worlds_hold_what_was_handed_out::<Message>();
+        lines_are_covered::<Message>();
+        seals_cover_values();
+        correct_deployments_cover::<Message>();
+        quorums_cover_values::<Message>();
+        messages_passed_as_defined();
         messages_passed_read_as_sent();
         assert!(rt; true);
     }

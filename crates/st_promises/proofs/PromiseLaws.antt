@@ -16,13 +16,13 @@ use Rattle.st_protocol.specs.State.{Run}
 use Rattle.st_protocol.specs.Questions.{executed_values, questions, ran_by, runs, run_on, no_run}
 use Rattle.st_protocol.specs.World as model
 use Rattle.st_protocol.specs.World.{empty, is_correct}
-use Rattle.st_protocol.specs.Schedule.{is_built_line, steps}
+use Rattle.st_protocol.specs.Schedule.{steps}
 use Rattle.st_config.specs.Taken.{IsTaken}
 use Rattle.st_live.specs.Service.{list_serve}
 use Rattle.st_server.specs.Deployed.{world_deployment, keyed_seals}
 use Rattle.st_server.specs.Serving.{knows_sender_of}
-use Rattle.st_origins.specs.Origins.{IsHanded, comes_from_client, ReadsWhatIsSent}
-use Rattle.st_origins.proofs.WorldLaws.{built_are_honest, executed_handed, passed_reads_same}
+use Rattle.st_origins.specs.Origins.{IsHanded, comes_from_client, ReadsWhatIsSent, is_honest_line}
+use Rattle.st_origins.proofs.WorldLaws.{executed_handed, passed_reads_same}
 use Rattle.st_in_hand.proofs.ServerLaws.{servers_up_to_date, next_event_executes}
 use Rattle.st_promises.specs.Logs.{IsFront, times_ran}
 use Rattle.st_promises.specs.Promises.{log_at, KeepsPromises, AlwaysKeepsPromises}
@@ -80,34 +80,34 @@ unfolding world_deployment
 reads_sent d = passed_reads_same (world_deployment d) (keyed_seals d) (knows_sender_of d.sites d.f) refl
 
 -- each executed value is a no-op or comes from a client
-values_handed : (d : Deployment) (all : List Line) (site index : ℕ) → All (λ line. is_built_line line ≡ true) all
+values_handed : (d : Deployment) (all : List Line) (site index : ℕ) → All (λ line. is_honest_line line ≡ true) all
     → (v : Value) → Contains (executed_values ((steps (world_deployment d) empty all).nodes site index).bodies) v → IsTrue (comes_from_client (steps (world_deployment d) empty all).made v)
-values_handed d all site index built values.Noop found = refl
-values_handed d all site index built (values.Update u) found = executed_handed (world_deployment d) all (reads_sent d) (built_are_honest all built) site index u found
+values_handed d all site index honest values.Noop found = refl
+values_handed d all site index honest (values.Update u) found = executed_handed (world_deployment d) all (reads_sent d) honest site index u found
 
 -- so is each value of the log
-log_handed : (d : Deployment) (all : List Line) (site index : ℕ) → All (λ line. is_built_line line ≡ true) all
+log_handed : (d : Deployment) (all : List Line) (site index : ℕ) → All (λ line. is_honest_line line ≡ true) all
     → All (λ entry. IsTrue (comes_from_client (steps (world_deployment d) empty all).made entry.value)) (log_at d (steps (world_deployment d) empty all) site index)
-log_handed d all site index built =
+log_handed d all site index honest =
     let world : model.World Message = steps (world_deployment d) empty all in
     let xs : List Value = executed_values (world.nodes site index).bodies in
     subst (λ (entries : List Entry). All (λ entry. IsTrue (comes_from_client world.made entry.value)) entries) (sym (log_is d world site index))
     (entries_pass (λ v. IsTrue (comes_from_client world.made v)) list_serve no_run xs (λ k e below. absurd (omega (arith, below)))
-    (λ k v below. values_handed d all site index built _ (All-contains_itself xs k v below)))
+    (λ k v below. values_handed d all site index honest _ (All-contains_itself xs k v below)))
 
 -- ---- all promises
 
-keeps : (d : Deployment) (all : List Line) → IsTaken d → All (λ line. is_built_line line ≡ true) all → KeepsPromises d (steps (world_deployment d) empty all)
-keeps d all taken built =
+keeps : (d : Deployment) (all : List Line) → IsTaken d → All (λ line. is_honest_line line ≡ true) all → KeepsPromises d (steps (world_deployment d) empty all)
+keeps d all taken honest =
     let world : model.World Message = steps (world_deployment d) empty all in
     record {
       agree = λ s i t j first second. logs_agree d world s i t j taken first second;
-      handed = λ site index. log_handed d all site index built;
+      handed = λ site index. log_handed d all site index honest;
       once = λ site index client time.
           subst (λ (entries : List Entry). times_ran client time entries ≤ 1) (sym (log_is d world site index)) (runs_once list_serve (executed_values (world.nodes site index).bodies) client time);
       executes = λ site index event. next_event_executes (world_deployment d) all site index event;
       prompt = λ site index. (servers_up_to_date (world_deployment d) all site index).next;
     }
 
-pub always_keeps : (d : Deployment) (all : List Line) → IsTaken d → All (λ line. is_built_line line ≡ true) all → AlwaysKeepsPromises d all
-always_keeps d all taken built = λ k. keeps d (take k all) taken (All-take (λ (line : Line). is_built_line line ≡ true) k all built)
+pub always_keeps : (d : Deployment) (all : List Line) → IsTaken d → All (λ line. is_honest_line line ≡ true) all → AlwaysKeepsPromises d all
+always_keeps d all taken honest = λ k. keeps d (take k all) taken (All-take (λ (line : Line). is_honest_line line ≡ true) k all honest)

@@ -1,9 +1,9 @@
--- Lines that are built today leave every server running, with no stop set and an empty journal.
-use Rattle.std.proofs.Common.{◌≡◌, ℕ, ◌+◌, ◌-◌, Bool, true, false, cond, zero, suc, nat_eq, List, [], ◌∷◌, refl, sym, ◌∙◌, ap, subst, arith}
+-- Lines that set no stop leave every server running, with no stop set and an empty journal.
+use Rattle.std.proofs.Common.{◌≡◌, ℕ, ◌+◌, ◌-◌, Bool, true, false, cond, zero, suc, nat_eq, List, [], ◌∷◌, ◌++◌, refl, sym, ◌∙◌, ap, subst, arith}
 use Rattle.std.specs.Prelude.{◌&&◌, Option, Some, None, is_some, not, nat_lt, nat_le, slice_get}
 use Rattle.std.proofs.lemmas.Bool.{and_parts}
 use Rattle.st_words.specs.declared.statement.Statement.{Statement}
-use Rattle.st_words.specs.declared.statement.Statement.TheVariants.{Reply}
+use Rattle.st_words.specs.declared.statement.Statement.TheVariants.{Prepare, Reply}
 use Rattle.st_seal.specs.declared.quorum.Signed.{Signed}
 use Rattle.st_message.specs.declared.message.Message.{Message}
 use Rattle.st_message.specs.declared.message.Message.TheVariants as messages
@@ -20,10 +20,10 @@ use Rattle.st_schedule.specs.declared.limits.TheConstants.{MOST_JOURNAL, EMPTY_J
 use Rattle.st_schedule.specs.declared.done.Done.TheVariants as done
 use Rattle.st_protocol.specs.Words.{Bytes, server_at}
 use Rattle.st_protocol.specs.Keeping.{given}
-use Rattle.st_protocol.specs.Duty.{Event, Deliver, Reading, Faulty, Clean}
+use Rattle.st_protocol.specs.Duty.{Event, Deliver, Tick, Reading, Faulty, Clean}
 use Rattle.st_protocol.specs.Known.{all_of}
-use Rattle.st_protocol.specs.World.{Deployment, Fault, BadReference, Node, Pair, Answered, Customer, World, fresh_node, empty, is_nil, handed, Stepped, stepped, with_node, with_customer, with_waiting, ends, hands, bad_seal, read_known, sends_to, notes_seal, hands_one, hands_out, settled, is_full_by, is_stopped_by, stands_full, stands_stopped, plan_at, comes_to, by_stand, serves, with_reply, answered, awaits, on_checked_reply, on_reply, client_takes, delivers}
-use Rattle.st_protocol.specs.Schedule.{is_built_line, Flowing, counts, flows_first, flows, submits, is_reference, goes, step, goes_on, steps, world_of}
+use Rattle.st_protocol.specs.World.{Deployment, Fault, BadReference, Running, Node, Pair, Answered, Customer, World, fresh_node, empty, is_nil, handed, same_dest, uses_leaf, Stepped, stepped, with_node, with_customer, with_waiting, ends, hands, bad_seal, read_known, sends_to, notes_seal, hands_one, hands_out, settled, is_full_by, is_stopped_by, stands_full, stands_stopped, plan_at, comes_to, by_stand, serves, with_reply, answered, awaits, on_checked_reply, on_reply, client_takes, delivers}
+use Rattle.st_protocol.specs.Schedule.{sets_no_stop, is_pair, without, drops, Flowing, counts, flows_first, flows, submits, timeout_event, restarted, then_assigns, sealed_message, client_seal_of, seals, forged_by, is_reference, goes, step, goes_on, steps, world_of}
 use Rattle.st_protocol.specs.Plain.{IsPlain, ArePlain}
 use Rattle.st_protocol.proofs.GatherLaws.{fold-keeps}
 
@@ -227,29 +227,81 @@ module _ {Wire : Type 0} (d : Deployment Wire) (nothing_written : (changes : Lis
   unfolding submits sends_to hands with_customer ArePlain
   submits_plain world client op plain = if_plainly (nat_le d.capacity (world.customers client).time) _ _ plain plain
 
-  -- after a line that is built
-  goes_plain : (world : World Wire) (line : Line) → is_built_line line ≡ true → ArePlain world → Plainly (goes d world line)
-  goes_plain world (lines.Client client op) built plain = submits_plain world client.0 op plain
-  goes_plain world (lines.Flow k) built plain = flows_plain k (record { world = world; pairs = 0; did = 0; ignored = 0 }) plain
-  goes_plain world (lines.Show m) built plain = absurd (let no : false ≡ true = built in cc)
-  goes_plain world _ built plain = absurd (let no : false ≡ true = built in cc)
+  -- after lost pairs
+  drops_plain : (world : World Wire) (lost : Pair → Bool) → ArePlain world → Plainly (drops d world lost)
+  unfolding drops
+  drops_plain world lost plain = waiting_plain world (without lost world.waiting) plain
+
+  -- a server that was started again: of a plain one no failed event's changes may be there
+  pub restarted_plain : (node : Node) (kept : Bool) → IsPlain node → IsPlain (restarted d node kept)
+  restarted_plain node kept plain =
+      subst (λ (apart : Option (List Change)). IsPlain (given (cond kept apart None) (again node) (λ changes. record { bodies = node.bodies ++ changes ∷ []; heard = []; stand = Running; stop = 0; apart = None; bytes = node.bytes + d.formats.body_size changes })))
+      (sym plain.not_apart) (by kept)
+    where
+      -- it, with nothing heard
+      again : Node → Node
+      again n = record { bodies = n.bodies; heard = []; stand = Running; stop = 0; apart = None; bytes = n.bytes }
+
+      by : (b : Bool) → IsPlain (given (cond b None None) (again node) (λ changes. record { bodies = node.bodies ++ changes ∷ []; heard = []; stand = Running; stop = 0; apart = None; bytes = node.bytes + d.formats.body_size changes }))
+      by true = record { running = refl; no_stop = refl; not_apart = refl; empty_journal = plain.empty_journal }
+      by false = record { running = refl; no_stop = refl; not_apart = refl; empty_journal = plain.empty_journal }
+
+  -- after an assignment that goes nowhere by itself
+  assigns_plain : (world : World Wire) (s : Statement) (signed : Signed) → ArePlain world → ArePlain (then_assigns d world s signed)
+  unfolding then_assigns sends_to ArePlain
+  assigns_plain world (Prepare site view local number value) signed plain = plain
+  assigns_plain world _ signed plain = plain
+
+  -- after a message that a faulty server sealed, which goes nowhere by itself
+  sealed_plain : (world : World Wire) (site index : ℕ) (wire : Wire) → ArePlain world → ArePlain (sends_to d (uses_leaf world site index) wire [])
+  unfolding sends_to uses_leaf ArePlain
+  sealed_plain world site index wire plain = plain
+
+  -- after a faulty server's seal
+  pub seals_plain : (world : World Wire) (site index : ℕ) (s : Statement) → ArePlain world → Plainly (seals d world site index s)
+  unfolding seals
+  seals_plain world site index s plain =
+      let signed : Signed = record { index = index; seal = d.formats.seal (server_at site index) (world.leaves site index) s } in
+      assigns_plain (sends_to d (uses_leaf world site index) (d.formats.encode (sealed_message s signed)) []) s signed (sealed_plain world site index (d.formats.encode (sealed_message s signed)) plain)
 
   -- in a world that ends
   ends_plain : (world : World Wire) (fault : Option Fault) → ArePlain world → ArePlain (ends world fault)
   unfolding ArePlain ends
   ends_plain world fault plain = plain
 
+  -- after a line that sets no stop
+  goes_plain : (world : World Wire) (line : Line) → sets_no_stop line ≡ true → ArePlain world → Plainly (goes d world line)
+  goes_plain world (lines.Client client op) unset plain = submits_plain world client.0 op plain
+  goes_plain world (lines.Deliver m to) unset plain =
+      given_plainly (slice_get world.sent m) (stepped world (done.Dropped 0)) (λ wire. delivers d (with_waiting world (without (is_pair m to) world.waiting)) to wire) plain
+      (λ wire. delivers_plain (with_waiting world (without (is_pair m to) world.waiting)) to wire (waiting_plain world (without (is_pair m to) world.waiting) plain))
+  goes_plain world (lines.Drop m to) unset plain = drops_plain world (is_pair m to) plain
+  goes_plain world (lines.Lose to) unset plain = drops_plain world (λ p. same_dest p.to to) plain
+  goes_plain world (lines.Flow k) unset plain = flows_plain k (record { world = world; pairs = 0; did = 0; ignored = 0 }) plain
+  goes_plain world (lines.Timeout server global) unset plain = serves_plain world server.site server.index (timeout_event global) plain
+  goes_plain world (lines.Tick server) unset plain = serves_plain world server.site server.index Tick plain
+  goes_plain world (lines.Stop server call) unset plain = absurd (let no : false ≡ true = unset in cc)
+  goes_plain world (lines.Restart server kept) unset plain =
+      node_plain world server.site server.index (restarted d (world.nodes server.site server.index) kept)
+      (restarted_plain (world.nodes server.site server.index) kept (at_node world plain server.site server.index)) plain
+  goes_plain world (lines.Seal server s) unset plain = seals_plain world server.site server.index s plain
+  goes_plain world (lines.Raw to bytes) unset plain =
+      given_plainly (forged_by d world (d.formats.read (d.formats.raw bytes))) (delivers d world to (d.formats.raw bytes)) (λ fault. stepped (ends world (Some fault)) (done.Dropped 0))
+      (delivers_plain world to (d.formats.raw bytes) plain) (λ fault. ends_plain world (Some fault) plain)
+  goes_plain world (lines.Show m) unset plain =
+      given_plainly (slice_get world.sent m) (stepped world (done.Dropped 0)) (λ wire. stepped world (done.Shown (d.formats.bytes wire))) plain (λ wire. plain)
+
   -- after a line, whether or not what it names is there
-  step_plain : (world : World Wire) (line : Line) → is_built_line line ≡ true → ArePlain world → Plainly (step d world line)
+  step_plain : (world : World Wire) (line : Line) → sets_no_stop line ≡ true → ArePlain world → Plainly (step d world line)
   unfolding step
-  step_plain world line built plain = if_plainly (is_reference d world line) _ _ (goes_plain world line built plain) (ends_plain world (Some BadReference) plain)
+  step_plain world line unset plain = if_plainly (is_reference d world line) _ _ (goes_plain world line unset plain) (ends_plain world (Some BadReference) plain)
 
   -- after lines
-  steps_plain : (world : World Wire) (all : List Line) → all_of is_built_line all ≡ true → ArePlain world → ArePlain (steps d world all)
+  steps_plain : (world : World Wire) (all : List Line) → all_of sets_no_stop all ≡ true → ArePlain world → ArePlain (steps d world all)
   unfolding all_of
-  steps_plain world [] built plain = plain
-  steps_plain world (line ∷ more) built plain =
-      let parts = and_parts (is_built_line line) (all_of is_built_line more) built in
+  steps_plain world [] unset plain = plain
+  steps_plain world (line ∷ more) unset plain =
+      let parts = and_parts (sets_no_stop line) (all_of sets_no_stop more) unset in
       steps_plain (goes_on d world line) more parts.1 (step_plain world line parts.0 plain)
 
   -- at first
@@ -257,6 +309,6 @@ module _ {Wire : Type 0} (d : Deployment Wire) (nothing_written : (changes : Lis
   unfolding ArePlain empty fresh_node
   empty_plain site index = record { running = refl; no_stop = refl; not_apart = refl; empty_journal = refl }
 
-  -- Lines that are built leave all servers so.
-  pub built_lines_plain : (all : List Line) → all_of is_built_line all ≡ true → ArePlain (world_of d all)
-  built_lines_plain all built = steps_plain empty all built empty_plain
+  -- Lines that set no stop leave all servers so.
+  pub lines_plain : (all : List Line) → all_of sets_no_stop all ≡ true → ArePlain (world_of d all)
+  lines_plain all unset = steps_plain empty all unset empty_plain

@@ -24,11 +24,10 @@ use Rattle.st_protocol.specs.Keeping.{given}
 use Rattle.st_protocol.specs.Duty.{Event, LocalTimeout, GlobalTimeout, Tick, Reading, Faulty, Clean}
 use Rattle.st_protocol.specs.World.{SealIn, Deployment, BadReference, Forged, Fault, Running, Node, Pair, Customer, World, empty, same_dest, has_made, first_bad, with_node, with_customer, with_waiting, uses_leaf, ends, hands, Stepped, stepped, is_server, is_correct, checks_in, dests_of, sends_to, serves, delivers}
 
--- Which lines are built today: a client's update, and a flow.
-abbrev pub is_built_line : Line → Bool
-is_built_line (lines.Client client op) = true
-is_built_line (lines.Flow pairs) = true
-is_built_line _ = false
+-- a line that sets no device call to fail
+abbrev pub sets_no_stop : Line → Bool
+sets_no_stop (lines.Stop server call) = false
+sets_no_stop _ = true
 
 -- ---- the undelivered pairs
 

@@ -11,8 +11,8 @@ pub use answers::{
 };
 pub use words::tests_of_sameness;
 pub use worlds::{
-    duty_at_a_clean_message, messages_passed_read_clean, worlds_of_built_lines,
-    worlds_of_longer_schedules,
+    duty_at_a_clean_message, messages_passed_read_clean, worlds_of_longer_schedules,
+    worlds_without_stops,
 };
 
 #[cfg(test)]
@@ -32,7 +32,7 @@ mod tests {
         messages_passed_read_clean();
         duty_at_a_clean_message::<Message>();
         duty_at_a_clean_message::<Bytes>();
-        worlds_of_built_lines::<Message>();
+        worlds_without_stops::<Message>();
         worlds_of_longer_schedules::<Bytes>();
         assert!(rt; true);
     }

@@ -11,7 +11,7 @@ ghost use Rattle.st_protocol.specs.State.{Seat};
 ghost use Rattle.st_protocol.specs.Duty.{Event, Deliver, Reading, Clean, Pen, duty, duty_of_message};
 ghost use Rattle.st_protocol.specs.Known.{all_of};
 ghost use Rattle.st_protocol.specs.World.{Deployment, passed, World, empty, stepped, with_node, reads, read_known, settled, hands_out, plan_at, serves};
-ghost use Rattle.st_protocol.specs.Schedule.{is_built_line, step, world_of, dones};
+ghost use Rattle.st_protocol.specs.Schedule.{sets_no_stop, step, world_of, dones};
 ghost use Rattle.st_protocol.specs.Plain.{IsPlain, ArePlain};
 
 /// Where a delivered message is read with nothing wrong, a server's duty is its duty at the message itself,
@@ -27,11 +27,11 @@ pub fn messages_passed_read_clean()
     ensures client { (d : Deployment Message) (seal : Who → ℕ → Statement → Bytes) (m : Message) → d.formats ≡ passed seal → read_known d m ≡ Clean m }
 {}
 
-/// Where no body is written, the lines that are built today leave every server running, with no stop set
-/// and an empty journal; and an event of such a server is its plan, handed out.
-pub fn worlds_of_built_lines<Wire>()
+/// Where no body is written, lines that set no stop leave every server running, with no stop set and an
+/// empty journal; and an event of such a server is its plan, handed out.
+pub fn worlds_without_stops<Wire>()
     ensures plain { (d : Deployment Wire) (all : List Line) →
-        ((changes : List Change) → d.formats.body_size changes ≡ 0) → all_of is_built_line all ≡ true → ArePlain (world_of d all) }
+        ((changes : List Change) → d.formats.body_size changes ≡ 0) → all_of sets_no_stop all ≡ true → ArePlain (world_of d all) }
     ensures served { (d : Deployment Wire) (world : World Wire) (site index : ℕ) (event : Event Wire) →
         ((changes : List Change) → d.formats.body_size changes ≡ 0) → IsPlain (world.nodes site index) → d.faulty site index ≡ false →
         serves d world site index event

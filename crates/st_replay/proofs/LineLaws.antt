@@ -1,22 +1,20 @@
 -- One event line more.
-use Rattle.std.proofs.Common.{◌≡◌, ◌∙◌, ap, subst, sym, ℕ, Some, List, [], ◌∷◌, ◌++◌, refl}
-use Rattle.std.specs.Prelude.{map, take, drop}
-use Rattle.std.specs.List.{fold}
-use Rattle.std.proofs.lemmas.List.{map-append, take-append-drop}
+use Rattle.std.proofs.Common.{◌≡◌, ◌∙◌, ap, subst, sym, ℕ, List, [], ◌∷◌, ◌++◌, refl}
+use Rattle.std.specs.Prelude.{map}
+use Rattle.std.proofs.lemmas.List.{map-append}
 use Rattle.std.proofs.lemmas.Grind.{flat_map-append}
 use Rattle.st_words.specs.declared.deployment.Deployment.{Deployment}
 use Rattle.st_message.specs.declared.message.Message.{Message}
 use Rattle.st_schedule.specs.declared.line.Line.{Line}
 use Rattle.st_schedule.specs.declared.done.Done.{Done}
 use Rattle.st_protocol.specs.World as model
-use Rattle.st_protocol.specs.World.{Fault, TooMany, empty}
-use Rattle.st_protocol.specs.Schedule.{step, goes_on, steps}
+use Rattle.st_protocol.specs.World.{empty}
+use Rattle.st_protocol.specs.Schedule.{step, steps}
 use Rattle.st_protocol.specs.Report.{came_from, done_row, done_words}
 use Rattle.st_flows.proofs.LineLaws.{steps_more, came_from_more}
-use Rattle.st_flows.proofs.EndLaws.{steps_ended}
 use Rattle.st_input.specs.declared.input.InputLine.{InputLine}
 use Rattle.st_server.specs.Deployed.{world_deployment}
-use Rattle.st_world.specs.Standing.{IsWorld, HasTooMany}
+use Rattle.st_world.specs.Standing.{IsWorld}
 use Rattle.st_replay.specs.declared.lines.Replay.{Replay}
 use Rattle.st_replay.specs.Lines.{events_in, numbered_in, world_after, came_after, done_rows, IsReplayed}
 
@@ -64,35 +62,3 @@ replayed_more old new d before x done goes comes rows so =
           ∙ ((λ i. so.done i ++ record { line = x.number; words = done_words (comes (world_after d before) so.world i) } ∷ [])
           ∙ sym (rows_more d before x));
     }
-
--- a line ends the world
-pub many_more : (old : Replay) (d : Deployment) (before : List InputLine) (x : InputLine)
-    → ((m : model.World Message) → IsWorld old.world d m → HasTooMany (step (world_deployment d) m x.line).world.ended) → IsReplayed old d before
-    → HasTooMany (world_after d (before ++ x ∷ [])).ended
-many_more old d before x ends so =
-    subst (λ (m : model.World Message). HasTooMany m.ended) (sym (world_more d before x)) (ends (world_after d before) so.world)
-
-pub missing_more : (old : Replay) (d : Deployment) (before : List InputLine) (x : InputLine)
-    → ((m : model.World Message) → IsWorld old.world d m → (step (world_deployment d) m x.line).world.ended ≡ Some model.BadReference) → IsReplayed old d before
-    → (world_after d (before ++ x ∷ [])).ended ≡ Some model.BadReference
-missing_more old d before x ends so = ap (λ (m : model.World Message). m.ended) (world_more d before x) ∙ ends (world_after d before) so.world
-
--- ---- an ended world
-
-fold_join : {S X : Type 0} (f : S → X → S) (s : S) (xs ys : List X) → fold f s (xs ++ ys) ≡ fold f (fold f s xs) ys
-fold_join f s [] ys = refl
-fold_join f s (x ∷ xs) ys = fold_join f (f s x) xs ys
-
--- what ended a world ends it after further lines too
-ended_after : (d : Deployment) (before rest : List InputLine) (f : Fault) → (world_after d before).ended ≡ Some f → (world_after d (before ++ rest)).ended ≡ Some f
-ended_after d before rest f e =
-    ap (λ (m : model.World Message). m.ended)
-    (ap (steps (world_deployment d) empty) (map-append (λ (y : InputLine). y.line) before rest) ∙ fold_join (goes_on (world_deployment d)) empty (events_in before) (events_in rest))
-    ∙ steps_ended (world_deployment d) f (world_after d before) (events_in rest) e
-
--- after the first lines the world ended, so it has ended after all
-pub all_ended : (d : Deployment) (lines : List InputLine) (k : ℕ) (f : Fault) → (world_after d (take k lines)).ended ≡ Some f → (world_after d lines).ended ≡ Some f
-all_ended d lines k f e = subst (λ (xs : List InputLine). (world_after d xs).ended ≡ Some f) (take-append-drop k lines) (ended_after d (take k lines) (drop k lines) f e)
-
-pub all_many : (d : Deployment) (lines : List InputLine) (k : ℕ) → HasTooMany (world_after d (take k lines)).ended → HasTooMany (world_after d lines).ended
-all_many d lines k many = (many.0, all_ended d lines k (TooMany many.0) many.1)

@@ -9,10 +9,10 @@ use Rattle.st_message.specs.declared.event.Scope.TheVariants as scopes
 use Rattle.st_schedule.specs.declared.line.Dest.{Dest}
 use Rattle.st_schedule.specs.declared.line.Line.{Line}
 use Rattle.st_schedule.specs.declared.line.Line.TheVariants as lines
-use Rattle.st_schedule.specs.Ranges.{IsBuilt}
 use Rattle.st_protocol.specs.World.{dests_of}
-use Rattle.st_protocol.specs.Schedule.{is_built_line}
+use Rattle.st_protocol.specs.Schedule.{sets_no_stop}
 use Rattle.st_flows.proofs.BoundLaws.{IsSmall, small_world}
+use Rattle.st_config.specs.Built.{IsBuilt}
 use Rattle.st_config.specs.Taken.{IsTaken}
 use Rattle.st_input.specs.declared.input.InputLine.{InputLine}
 use Rattle.st_server.specs.Deployed.{world_deployment}
@@ -29,21 +29,21 @@ one_dest d taken (scopes.Site site) =
 one_dest d taken (scopes.One server) = omega arith
 one_dest d taken (scopes.Client client) = omega arith
 
--- a line within its ranges is built
-built_line : (line : Line) → IsBuilt line → is_built_line line ≡ true
-built_line (lines.Client client op) built = refl
-built_line (lines.Flow pairs) built = refl
-built_line (lines.Show m) built = absurd built
-built_line _ built = absurd built
+-- what is so of each line that is taken is so of an input's
+pub taken_events : (P : Line → Type 0) → ((line : Line) → IsBuilt line → P line) → (xs : List InputLine) → All (λ x. IsBuilt x.line) xs → All P (events_in xs)
+taken_events P so [] built = λ k line below. absurd (omega (arith, below))
+taken_events P so (x ∷ xs) built =
+    All-cons P x.line (events_in xs) (so x.line (All-head (λ (y : InputLine). IsBuilt y.line) x xs built)) (taken_events P so xs (All-tail (λ (y : InputLine). IsBuilt y.line) x xs built))
 
-pub built_events : (xs : List InputLine) → All (λ x. IsBuilt x.line) xs → All (λ line. is_built_line line ≡ true) (events_in xs)
-built_events [] built = λ k line below. absurd (omega (arith, below))
-built_events (x ∷ xs) built =
-    All-cons (λ (line : Line). is_built_line line ≡ true) x.line (events_in xs) (built_line x.line (All-head (λ (y : InputLine). IsBuilt y.line) x xs built))
-    (built_events xs (All-tail (λ (y : InputLine). IsBuilt y.line) x xs built))
+-- a line that is taken sets no stop
+no_stop : (line : Line) → IsBuilt line → sets_no_stop line ≡ true
+no_stop (lines.Client client op) built = refl
+no_stop (lines.Flow pairs) built = refl
+no_stop (lines.Show m) built = absurd built
+no_stop _ built = absurd built
 
 small : (d : Deployment) (xs : List InputLine) → IsTaken d → All (λ x. IsBuilt x.line) xs → IsSmall 1 (world_after d xs)
-small d xs taken built = small_world (world_deployment d) 1 (one_dest d taken) (events_in xs) (built_events xs built)
+small d xs taken built = small_world (world_deployment d) 1 (one_dest d taken) (events_in xs) (taken_events (λ (line : Line). sets_no_stop line ≡ true) no_stop xs built)
 
 -- as many messages were sent as a number of 32 bits says
 pub few_sent : (replay : Replay) (d : Deployment) (xs : List InputLine) → IsTaken d → All (λ x. IsBuilt x.line) xs → IsReplayed replay d xs → length replay.world.sent < 2 ^ 32

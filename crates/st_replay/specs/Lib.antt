@@ -1,4 +1,5 @@
 -- The definitions that contracts cite.
+pub mod Ends
 pub mod Lines
 pub mod Log
 pub mod Replay

@@ -2,11 +2,15 @@
 #![tactic(auto)]
 
 mod clients;
+mod ends;
+mod error;
 mod lines;
 mod log;
 mod replayed;
 mod rows;
 mod server;
 
+pub use ends::replays_end_as_their_worlds;
+pub use error::ReplayError;
 pub use lines::{Replay, replay_lines};
-pub use replayed::{ReplayError, replay};
+pub use replayed::replay;

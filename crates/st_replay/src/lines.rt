@@ -1,15 +1,16 @@
-ghost use Rattle.std.specs.Prelude.{◌≡◌, Some, [], ◌∷◌, ◌++◌, List, Err, IfOk, OnOk};
+ghost use Rattle.std.specs.Prelude.{◌≡◌, [], ◌∷◌, ◌++◌, List, IfOk, IfErr, OnOk, IsOkUnless};
 ghost use Rattle.std.specs.List.{All};
 ghost use Rattle.st_words.specs.declared.deployment.Deployment.{Deployment};
-ghost use Rattle.st_schedule.specs.Ranges.{IsBuilt};
-ghost use Rattle.st_protocol.specs.World.{BadReference};
+ghost use Rattle.st_config.specs.Built.{IsBuilt};
 ghost use Rattle.st_protocol.specs.Report.{done_words};
 ghost use Rattle.st_config.specs.Taken.{IsTaken};
 ghost use Rattle.st_input.specs.declared.input.InputLine.{InputLine};
-ghost use Rattle.st_world.specs.declared.error.WorldError.TheVariants as errors;
-ghost use Rattle.st_world.specs.Standing.{IsStanding, HasTooMany};
-ghost use Rattle.st_replay.specs.Lines.{IsReplayed, world_after};
+ghost use Rattle.st_world.specs.Standing.{IsStanding};
+ghost use Rattle.st_replay.specs.declared.error.ReplayError.TheVariants as errors;
+ghost use Rattle.st_replay.specs.Ends.{IsEnd, end_in};
+ghost use Rattle.st_replay.specs.Lines.{IsReplayed};
 
+use crate::error::ReplayError;
 use st_fields::Seq;
 use st_input::{InputLine, InputLines};
 use st_message::Outcome;
@@ -28,19 +29,18 @@ pub struct Replay {
 
 /// The world that an input's event lines lead to, one by one, in a deployment that is taken today.
 ///
-/// TooMany and BadReference come only where the definitions' world ends so.
-pub fn replay_lines(alloc: Global, d: &Deployment, lines: &InputLines) -> Result<Replay, WorldError>
+/// TooMany and BadReference come only where the definitions' world ends so, with the line that ends it.
+pub fn replay_lines(
+    alloc: Global,
+    d: &Deployment,
+    lines: &InputLines,
+) -> Result<Replay, ReplayError>
     requires taken { IsTaken d.now }
     requires built { All (λ x. IsBuilt x.line) lines.now }
     ensures replayed { IfOk result (λ replay. IsReplayed replay d.now lines.now) }
-    ensures many { result ≡ Err errors.TooMany → HasTooMany (world_after d.now lines.now).ended }
-    ensures missing { result ≡ Err errors.BadReference → (world_after d.now lines.now).ended ≡ Some BadReference }
+    ensures ended { IfErr result (λ error. IsEnd error (end_in d.now lines.now)) }
 {
-    let world = World::new(alloc, d)?;
-    let mut replay = Replay {
-        world,
-        done: Seq::new(alloc),
-    };
+    let mut replay = Replay::new(alloc, d)?;
     for line in lines.as_slice() {
         match replay.take(alloc, line) {
             Ok(()) => {}
@@ -51,14 +51,29 @@ pub fn replay_lines(alloc: Global, d: &Deployment, lines: &InputLines) -> Result
 }
 
 impl Replay {
+    // The world before the first line.
+    fn new(alloc: Global, d: &Deployment) -> Result<Replay, ReplayError>
+        requires { IsTaken d.now }
+        ensures replayed { IfOk result (λ replay. IsReplayed replay d.now []) }
+        ensures stands { IfOk result (λ replay. IsStanding replay.world) }
+        ensures memory { IsOkUnless result errors.OutOfMemory }
+    {
+        let Ok(world) = World::new(alloc, d) else {
+            return Err(ReplayError::OutOfMemory);
+        };
+        Ok(Replay {
+            world,
+            done: Seq::new(alloc),
+        })
+    }
+
     // One event line more.
-    fn take(&mut self, alloc: Global, line: &InputLine) -> Result<(), WorldError>
+    fn take(&mut self, alloc: Global, line: &InputLine) -> Result<(), ReplayError>
         requires stands { IsStanding self.old.world }
         requires built { IsBuilt line.now.line }
         ensures replayed { OnOk result ((d : Deployment) (before : List InputLine) → IsReplayed self.old d before → IsReplayed self.new d (before ++ line.now ∷ [])) }
         ensures stands { OnOk result (IsStanding self.new.world) }
-        ensures many { result ≡ Err errors.TooMany → (d : Deployment) (before : List InputLine) → IsReplayed self.old d before → HasTooMany (world_after d (before ++ line.now ∷ [])).ended }
-        ensures missing { result ≡ Err errors.BadReference → (d : Deployment) (before : List InputLine) → IsReplayed self.old d before → (world_after d (before ++ line.now ∷ [])).ended ≡ Some BadReference }
+        ensures ended { IfErr result (λ error. (d : Deployment) (before more : List InputLine) → IsReplayed self.old d before → IsEnd error (end_in d (before ++ line.now ∷ more))) }
     {
         match self.world.step(alloc, &line.line) {
             Ok(done) => {
@@ -69,7 +84,9 @@ impl Replay {
                 })?;
                 Ok(())
             }
-            Err(error) => Err(error),
+            Err(WorldError::BadReference) => Err(ReplayError::BadReference { line: line.number }),
+            Err(WorldError::TooMany) => Err(ReplayError::TooMany { line: line.number }),
+            Err(WorldError::OutOfMemory) => Err(ReplayError::OutOfMemory),
         }
     }
 }

@@ -1,61 +1,31 @@
 ghost use Rattle.std.specs.Prelude.{◌≡◌, List, ◌+◌, ◌≤◌, ◌<◌, ◌^◌, length, IfOk, IsOkUnless};
 ghost use Rattle.std.specs.List.{All};
 ghost use Rattle.st_report.specs.Text.{report};
-ghost use Rattle.st_schedule.specs.Ranges.{IsBuilt};
+ghost use Rattle.st_config.specs.Built.{IsBuilt};
 ghost use Rattle.st_config.specs.Taken.{IsTaken};
 ghost use Rattle.st_input.specs.declared.input.InputLine.{InputLine};
 ghost use Rattle.st_replay.specs.Lines.{IsReplayed, rows_in};
 ghost use Rattle.st_replay.specs.Replay.{IsReplay, replay_of};
-ghost use Rattle.st_replay.specs.declared.replayed.ReplayError.TheVariants as errors;
+ghost use Rattle.st_replay.specs.declared.error.ReplayError.TheVariants as errors;
 
+use crate::error::ReplayError;
 use crate::lines::{Replay, replay_lines};
 use crate::rows::rows_of;
-use st_fields::{Bytes, WordsError};
+use st_fields::Bytes;
 use st_input::Input;
-use st_report::{ReportError, report_text};
+use st_report::report_text;
 use st_words::Deployment;
-use st_world::WorldError;
 use std::alloc::Global;
 
-/// Why an input has no report.
-#[derive(Clone, Copy, Debug, PartialEq, Eq)]
-pub enum ReplayError {
-    /// A line names what does not exist.
-    BadReference,
-    /// Too many messages would be sent.
-    TooMany,
-    /// Memory was refused.
-    OutOfMemory,
-}
-
-impl From<WordsError> for ReplayError {
-    ghost from_gives = { λ _ e. e ≡ errors.OutOfMemory };
-
-    fn from(_: WordsError) -> ReplayError {
-        ReplayError::OutOfMemory
-    }
-}
-
-impl From<ReportError> for ReplayError {
-    ghost from_gives = { λ _ e. e ≡ errors.OutOfMemory };
-
-    fn from(_: ReportError) -> ReplayError {
-        ReplayError::OutOfMemory
-    }
-}
-
-/// The report of an input's world: BadReference or TooMany exactly where that world ends so.
+/// The report of an input's world: BadReference or TooMany exactly where that world ends so, with the line that
+/// ends it.
 pub fn replay(alloc: Global, input: &Input) -> Result<Bytes, ReplayError>
     requires taken { IsTaken input.now.deployment }
     requires built { All (λ x. IsBuilt x.line) input.now.lines }
     ensures replayed { IsReplay result (replay_of input.now) }
 {
-    match replay_lines(alloc, &input.deployment, &input.lines) {
-        Ok(replay) => report(alloc, &input.deployment, replay),
-        Err(WorldError::BadReference) => Err(ReplayError::BadReference),
-        Err(WorldError::TooMany) => Err(ReplayError::TooMany),
-        Err(WorldError::OutOfMemory) => Err(ReplayError::OutOfMemory),
-    }
+    let replay = replay_lines(alloc, &input.deployment, &input.lines)?;
+    report(alloc, &input.deployment, replay)
 }
 
 // The text of the report.

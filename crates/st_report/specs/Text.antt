@@ -2,7 +2,7 @@
 use Rattle.std.specs.Prelude.{ℕ, zero, suc, ◌+◌, Option, Some, None, List, [], ◌∷◌, ◌++◌, codes}
 use Rattle.std.specs.Fmt.{decimal}
 use Rattle.std.specs.List.{flat_map}
-use Rattle.hex.specs.Hex.{encode_lower}
+use Rattle.st_texts.specs.Hexadecimal.{hex_text}
 use Rattle.st_words.specs.declared.ids.Number.{Number}
 use Rattle.st_words.specs.declared.value.Value.{Value}
 use Rattle.st_words.specs.declared.value.Value.TheVariants as values
@@ -19,11 +19,6 @@ use Rattle.st_report.specs.declared.rows.LogRow.{LogRow}
 use Rattle.st_report.specs.declared.rows.ServerRow.{ServerRow}
 use Rattle.st_report.specs.declared.rows.ClientRow.{ClientRow}
 use Rattle.st_report.specs.declared.rows.Rows.{Rows}
-
--- bytes in lower-case hexadecimal, `-` for none
-unfoldable pub hex_text : List ℕ → List ℕ
-hex_text [] = codes "-"
-hex_text (b ∷ bs) = encode_lower (b ∷ bs)
 
 unfoldable pub deployment_word : List ℕ
 deployment_word = codes "deployment "

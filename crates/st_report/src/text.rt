@@ -1,10 +1,11 @@
 ghost use Rattle.std.specs.Prelude.{◌≡◌, ℕ, List, ◌+◌, ◌<◌, ◌≤◌, ◌^◌, ◌++◌, length, string_bytes, IfOk, OnOk};
 ghost use Rattle.std.specs.List.{flat_map};
-ghost use Rattle.st_report.specs.Text.{hex_text, deployment_word, deployment_words, faults_words, header_line, done_words, done_line, state_word, server_line, ran_words, value_words, number_line, number_lines, server_lines, client_words, client_line, counts_line, report};
+ghost use Rattle.st_report.specs.Text.{deployment_word, deployment_words, faults_words, header_line, done_words, done_line, state_word, server_line, ran_words, value_words, number_line, number_lines, server_lines, client_words, client_line, counts_line, report};
 
 use crate::rows::{ClientRow, DoneRow, DoneWords, Header, LogRow, Rows, ServerRow, StateWord};
 use st_fields::{Bytes, Seq};
 use st_message::Ran;
+use st_texts::put_hex;
 use st_words::{Number, Value};
 use std::alloc::{AllocError, Global};
 use std::fmt::Write;
@@ -115,19 +116,6 @@ fn put_faults(out: &mut String, header: &Header) -> Result<(), AllocError>
     let f = header.f;
     let clients = header.clients;
     write!(out, " f {f} clients {clients}\n")?;
-    Ok(())
-}
-
-#[tactic(auto, unfolding(crate::specs::Text::hex_text))]
-fn put_hex(alloc: Global, out: &mut String, bytes: &[u8]) -> Result<(), AllocError>
-    ensures { OnOk result (string_bytes out.new ≡ string_bytes out.old ++ hex_text bytes.now) }
-{
-    if bytes.is_empty() {
-        out.push_str("-")?;
-    } else {
-        let text = hex::encode(alloc, bytes)?;
-        out.push_str(text.as_str())?;
-    }
     Ok(())
 }
 

@@ -1,61 +1,82 @@
 -- Which answer is given to which words and bytes.
-use Rattle.std.proofs.Common.{◌≡◌, ◌≢◌, ◌∙◌, ap, ◌<◌, ◌≤◌, ℕ, true, false, List, length, leb, Option, Some, None, inl, inr, refl, sym, arith}
+use Rattle.std.proofs.Common.{◌≡◌, ◌≢◌, ◌∙◌, ap, ◌<◌, ◌≤◌, ℕ, true, false, List, [], ◌++◌, length, leb, Option, Some, inl, inr, refl, sym, arith}
+use Rattle.std.specs.Fmt.{decimal}
 use Rattle.std.proofs.lemmas.Bool.{cond-true, cond-false, cond_both, leb-true, false_from_ne_true, false≢true}
-use Rattle.st_protocol.specs.World.{BadReference, Forged, TooMany, TooMuch}
-use Rattle.st_input.specs.declared.input.TheConstants.{MOST_INPUT}
+use Rattle.st_protocol.specs.World.{Fault, BadReference, Forged, TooMany, TooMuch}
+use Rattle.st_input.specs.declared.limits.TheConstants.{MOST_INPUT}
+use Rattle.st_input.specs.declared.fault.InputFault.{InputFault}
+use Rattle.st_input.specs.declared.fault.InputFault.TheVariants as faults
 use Rattle.st_input.specs.declared.input.Input.{Input}
-use Rattle.st_input.specs.Input.{input_of}
+use Rattle.st_input.specs.Input.{Read, input_of}
 use Rattle.st_run.specs.declared.answer.Answer.{Answer}
 use Rattle.st_run.specs.declared.status.Status.TheVariants as statuses
 use Rattle.st_replay.specs.Replay.{Replayed, Reported, Ended, replay_of}
-use Rattle.st_run.specs.Answers.{answer_of, bad_input, bytes_answer, forged, input_answer, is_replay, replay_answer, too_large, usage}
+use Rattle.st_run.specs.Answers.{answer_of, at_line, bad_input, bytes_answer, ended_answer, fault_answer, forged, input_answer, is_replay, replay_answer, too_large, usage}
 use Rattle.st_run.specs.Outcomes.{IsAnswered, IsAnswerTo}
 use Rattle.st_run.specs.Promised.{IsPromised}
-use Rattle.std.specs.Prelude.{Result, Ok, Err, IfOk}
+use Rattle.std.specs.Prelude.{Result, Ok, Err, IfOk, codes}
 use Rattle.std.specs.List.{All}
 use Rattle.st_fields.specs.declared.error.WordsError.{WordsError}
-use Rattle.st_schedule.specs.Ranges.{IsBuilt}
+use Rattle.st_schedule.specs.declared.line.Line.{Line}
+use Rattle.st_schedule.specs.declared.line.Line.TheVariants as lines
+use Rattle.st_config.specs.Built.{IsBuilt}
 use Rattle.st_config.specs.Taken.{IsTaken}
 use Rattle.st_replay.specs.Lines.{events_in}
-use Rattle.st_replay.proofs.SizeLaws.{built_events}
+use Rattle.st_replay.proofs.SizeLaws.{taken_events}
+use Rattle.st_origins.specs.Origins.{is_honest_line}
 use Rattle.st_promises.proofs.PromiseLaws.{always_keeps}
 
 pub usage_answered : IsAnswered usage.status
 unfolding usage
 usage_answered = tt
 
-pub too_large_answered : IsAnswered too_large.status
+-- too much
+pub too_large_answered : (what : List ℕ) → IsAnswered (too_large what).status
 unfolding too_large
-too_large_answered = tt
+too_large_answered what = tt
 
-pub too_large_is : too_large.status ≡ statuses.TooLarge
+pub too_large_is : (what : List ℕ) → (too_large what).status ≡ statuses.TooLarge
 unfolding too_large
-too_large_is = refl
+too_large_is what = refl
 
-bad_input_answered : IsAnswered bad_input.status
+bad_input_answered : (what : List ℕ) → IsAnswered (bad_input what).status
 unfolding bad_input
-bad_input_answered = tt
+bad_input_answered what = tt
 
-forged_answered : IsAnswered forged.status
+forged_answered : (what : List ℕ) → IsAnswered (forged what).status
 unfolding forged
-forged_answered = tt
+forged_answered what = tt
+
+fault_answered : (fault : InputFault) → IsAnswered (fault_answer fault).status
+unfolding fault_answer
+fault_answered faults.Utf8 = bad_input_answered (codes "utf-8")
+fault_answered faults.NoSeparator = bad_input_answered (codes "no separator")
+fault_answered faults.Deployment = bad_input_answered (codes "deployment: not-built")
+fault_answered (faults.TooManyLines n) = too_large_answered (at_line n [])
+fault_answered (faults.LongLine n) = too_large_answered (at_line n [])
+fault_answered (faults.Grammar n) = bad_input_answered (at_line n (codes ": grammar"))
+fault_answered (faults.NotBuilt n) = bad_input_answered (at_line n (codes ": not-built"))
+
+ended_answered : (n : ℕ) (fault : Fault) → IsAnswered (ended_answer n fault).status
+unfolding ended_answer
+ended_answered n BadReference = bad_input_answered (at_line n (codes ": reference"))
+ended_answered n (Forged place) = forged_answered (at_line n (codes " place " ++ decimal place))
+ended_answered n (TooMany count) = too_large_answered (codes "messages")
+ended_answered n (TooMuch bytes) = too_large_answered (codes "messages")
 
 replay_answered : (r : Replayed) → IsAnswered (replay_answer r).status
 replay_answered (Reported text) = tt
-replay_answered (Ended BadReference) = bad_input_answered
-replay_answered (Ended (Forged place)) = forged_answered
-replay_answered (Ended (TooMany count)) = too_large_answered
-replay_answered (Ended (TooMuch bytes)) = too_large_answered
+replay_answered (Ended n fault) = ended_answered n fault
 
-input_answered : (input : Option Input) → IsAnswered (input_answer input).status
-input_answered (Some input) = replay_answered (replay_of input)
-input_answered None = bad_input_answered
+input_answered : (input : Read Input) → IsAnswered (input_answer input).status
+input_answered (Ok input) = replay_answered (replay_of input)
+input_answered (Err fault) = fault_answered fault
 
 -- each answer to bytes is one that a run comes to
 pub bytes_answered : (bytes : List ℕ) → IsAnswered (bytes_answer bytes).status
 unfolding bytes_answer
 bytes_answered bytes =
-    cond_both (leb (length bytes) MOST_INPUT) (input_answer (input_of bytes)) too_large (λ (a : Answer). IsAnswered a.status) (λ short. input_answered (input_of bytes)) (λ long. too_large_answered)
+    cond_both (leb (length bytes) MOST_INPUT) (input_answer (input_of bytes)) (too_large (codes "input")) (λ (a : Answer). IsAnswered a.status) (λ short. input_answered (input_of bytes)) (λ long. too_large_answered (codes "input"))
 
 -- other words are answered with how the program is called
 pub of_other_words : (words : List (List ℕ)) (bytes : List ℕ) → is_replay words ≡ false → answer_of words bytes ≡ usage
@@ -68,11 +89,11 @@ unfolding answer_of
 of_replay words bytes e = cond-true (is_replay words) (bytes_answer bytes) usage e
 
 -- too many bytes are answered so
-pub of_many_bytes : (words : List (List ℕ)) (bytes : List ℕ) → is_replay words ≡ true → MOST_INPUT < length bytes → answer_of words bytes ≡ too_large
+pub of_many_bytes : (words : List (List ℕ)) (bytes : List ℕ) → is_replay words ≡ true → MOST_INPUT < length bytes → answer_of words bytes ≡ too_large (codes "input")
 unfolding bytes_answer
 of_many_bytes words bytes e many =
     of_replay words bytes e
-    ∙ cond-false (leb (length bytes) MOST_INPUT) (input_answer (input_of bytes)) too_large
+    ∙ cond-false (leb (length bytes) MOST_INPUT) (input_answer (input_of bytes)) (too_large (codes "input"))
     (false_from_ne_true _ (λ few. let fits : length bytes ≤ MOST_INPUT = leb-true (length bytes) MOST_INPUT few in omega arith))
 
 -- what other words are answered with is the answer
@@ -104,22 +125,40 @@ pub never_ok_usage : (answer : Answer) → answer ≡ usage → answer.status �
 unfolding usage
 never_ok_usage answer is ok = let no : statuses.Usage ≡ statuses.Ok = sym (ap (λ (a : Answer). a.status) is) ∙ ok in cc
 
-pub never_ok_too_large : (answer : Answer) → answer ≡ too_large → answer.status ≢ statuses.Ok
+pub never_ok_too_large : (what : List ℕ) (answer : Answer) → answer ≡ too_large what → answer.status ≢ statuses.Ok
 unfolding too_large
-never_ok_too_large answer is ok = let no : statuses.TooLarge ≡ statuses.Ok = sym (ap (λ (a : Answer). a.status) is) ∙ ok in cc
+never_ok_too_large what answer is ok = let no : statuses.TooLarge ≡ statuses.Ok = sym (ap (λ (a : Answer). a.status) is) ∙ ok in cc
 
-never_ok_bad_input : (answer : Answer) → answer ≡ bad_input → answer.status ≢ statuses.Ok
+never_ok_bad_input : (what : List ℕ) (answer : Answer) → answer ≡ bad_input what → answer.status ≢ statuses.Ok
 unfolding bad_input
-never_ok_bad_input answer is ok = let no : statuses.BadInput ≡ statuses.Ok = sym (ap (λ (a : Answer). a.status) is) ∙ ok in cc
+never_ok_bad_input what answer is ok = let no : statuses.BadInput ≡ statuses.Ok = sym (ap (λ (a : Answer). a.status) is) ∙ ok in cc
 
--- a bad input has no report
-pub bad_input_promises : (r : Result Answer WordsError) (bytes : List ℕ) → IfOk r (λ answer. answer ≡ bad_input) → IfOk r (λ answer. answer.status ≡ statuses.Ok → IsPromised bytes)
-bad_input_promises (Ok answer) bytes is = λ ok. absurd (never_ok_bad_input answer is ok)
-bad_input_promises (Err error) bytes is = tt
+never_ok_fault : (fault : InputFault) (answer : Answer) → answer ≡ fault_answer fault → answer.status ≢ statuses.Ok
+unfolding fault_answer
+never_ok_fault faults.Utf8 answer is ok = never_ok_bad_input (codes "utf-8") answer is ok
+never_ok_fault faults.NoSeparator answer is ok = never_ok_bad_input (codes "no separator") answer is ok
+never_ok_fault faults.Deployment answer is ok = never_ok_bad_input (codes "deployment: not-built") answer is ok
+never_ok_fault (faults.TooManyLines n) answer is ok = never_ok_too_large (at_line n []) answer is ok
+never_ok_fault (faults.LongLine n) answer is ok = never_ok_too_large (at_line n []) answer is ok
+never_ok_fault (faults.Grammar n) answer is ok = never_ok_bad_input (at_line n (codes ": grammar")) answer is ok
+never_ok_fault (faults.NotBuilt n) answer is ok = never_ok_bad_input (at_line n (codes ": not-built")) answer is ok
+
+-- an input with a fault has no report
+pub fault_promises : (r : Result Answer WordsError) (bytes : List ℕ) (fault : InputFault) → IfOk r (λ answer. answer ≡ fault_answer fault)
+    → IfOk r (λ answer. answer.status ≡ statuses.Ok → IsPromised bytes)
+fault_promises (Ok answer) bytes fault is = λ ok. absurd (never_ok_fault fault answer is ok)
+fault_promises (Err error) bytes fault is = tt
+
+-- at a line that is taken no faulty server seals, and no bytes come from outside
+honest : (line : Line) → IsBuilt line → is_honest_line line ≡ true
+honest (lines.Client client op) built = refl
+honest (lines.Flow pairs) built = refl
+honest (lines.Show m) built = absurd built
+honest _ built = absurd built
 
 -- an input that was read has a world that keeps its promises
-pub input_promises : (r : Result Answer WordsError) (bytes : List ℕ) (input : Input) → input_of bytes ≡ Some input → IsTaken input.deployment → All (λ x. IsBuilt x.line) input.lines
+pub input_promises : (r : Result Answer WordsError) (bytes : List ℕ) (input : Input) → input_of bytes ≡ Ok input → IsTaken input.deployment → All (λ x. IsBuilt x.line) input.lines
     → IfOk r (λ answer. answer.status ≡ statuses.Ok → IsPromised bytes)
 input_promises (Ok answer) bytes input spells taken built =
-    λ ok. record { input = input; spells = spells; keeps = always_keeps input.deployment (events_in input.lines) taken (built_events input.lines built) }
+    λ ok. record { input = input; spells = spells; keeps = always_keeps input.deployment (events_in input.lines) taken (taken_events (λ (line : Line). is_honest_line line ≡ true) honest input.lines built) }
 input_promises (Err error) bytes input spells taken built = tt

@@ -1,9 +1,12 @@
 -- What the program answers to its words and its input: a status, and a text.
-use Rattle.std.specs.Prelude.{ℕ, Bool, false, if◌then◌else◌, nat_le, List, [], ◌∷◌, ◌++◌, length, Option, Some, None, bytes_eq, codes}
+use Rattle.std.specs.Prelude.{ℕ, Bool, false, if◌then◌else◌, nat_le, List, [], ◌∷◌, ◌++◌, length, Result, Ok, Err, bytes_eq, codes}
+use Rattle.std.specs.Fmt.{decimal}
 use Rattle.st_protocol.specs.World.{Fault, BadReference, Forged, TooMany, TooMuch}
-use Rattle.st_input.specs.declared.input.TheConstants.{MOST_INPUT}
+use Rattle.st_input.specs.declared.limits.TheConstants.{MOST_INPUT}
+use Rattle.st_input.specs.declared.fault.InputFault.{InputFault}
+use Rattle.st_input.specs.declared.fault.InputFault.TheVariants as faults
 use Rattle.st_input.specs.declared.input.Input.{Input}
-use Rattle.st_input.specs.Input.{input_of}
+use Rattle.st_input.specs.Input.{Read, input_of}
 use Rattle.st_run.specs.declared.answer.Answer.{Answer}
 use Rattle.st_run.specs.declared.status.Status.{Status}
 use Rattle.st_run.specs.declared.status.Status.TheVariants as statuses
@@ -21,38 +24,52 @@ answer_in status text = record { status = status; text = line text }
 unfoldable pub usage : Answer
 usage = answer_in statuses.Usage (codes "usage: steward replay | demo SEED COUNT | node WHO --turns T")
 
--- the input is none that is taken
-unfoldable pub bad_input : Answer
-bad_input = answer_in statuses.BadInput (codes "bad input")
+-- the input is none that is taken: what is wrong with it
+unfoldable pub bad_input : List ℕ → Answer
+bad_input what = answer_in statuses.BadInput (codes "bad input: " ++ what)
 
--- the input is too long, or too many messages would be sent
-unfoldable pub too_large : Answer
-too_large = answer_in statuses.TooLarge (codes "too large")
+-- something is larger than it may be
+unfoldable pub too_large : List ℕ → Answer
+too_large what = answer_in statuses.TooLarge (codes "too large: " ++ what)
 
--- a seal was forged; no line that is taken today can do that
-unfoldable pub forged : Answer
-forged = answer_in statuses.Forged (codes "forged")
+-- a seal that nobody made would be delivered; no line that is taken today can do that
+unfoldable pub forged : List ℕ → Answer
+forged what = answer_in statuses.Forged (codes "forged: " ++ what)
 
--- the answer where a world ended
-abbrev pub ended_answer : Fault → Answer
-ended_answer BadReference = bad_input
-ended_answer (Forged place) = forged
-ended_answer (TooMany count) = too_large
-ended_answer (TooMuch bytes) = too_large
+-- a line by its number, from 1, and what of it
+unfoldable pub at_line : ℕ → List ℕ → List ℕ
+at_line n what = codes "line " ++ decimal n ++ what
+
+-- The answer to an input with this fault.
+unfoldable pub fault_answer : InputFault → Answer
+fault_answer faults.Utf8 = bad_input (codes "utf-8")
+fault_answer faults.NoSeparator = bad_input (codes "no separator")
+fault_answer faults.Deployment = bad_input (codes "deployment: not-built")
+fault_answer (faults.TooManyLines n) = too_large (at_line n [])
+fault_answer (faults.LongLine n) = too_large (at_line n [])
+fault_answer (faults.Grammar n) = bad_input (at_line n (codes ": grammar"))
+fault_answer (faults.NotBuilt n) = bad_input (at_line n (codes ": not-built"))
+
+-- The answer where line n ended the world.
+unfoldable pub ended_answer : ℕ → Fault → Answer
+ended_answer n BadReference = bad_input (at_line n (codes ": reference"))
+ended_answer n (Forged place) = forged (at_line n (codes " place " ++ decimal place))
+ended_answer n (TooMany count) = too_large (codes "messages")
+ended_answer n (TooMuch bytes) = too_large (codes "messages")
 
 -- the answer to a replayed input
 abbrev pub replay_answer : Replayed → Answer
 replay_answer (Reported text) = record { status = statuses.Ok; text = text }
-replay_answer (Ended fault) = ended_answer fault
+replay_answer (Ended n fault) = ended_answer n fault
 
--- the answer to an input that was read, if it was
-abbrev pub input_answer : Option Input → Answer
-input_answer (Some input) = replay_answer (replay_of input)
-input_answer None = bad_input
+-- the answer to what was read of an input
+abbrev pub input_answer : Read Input → Answer
+input_answer (Ok input) = replay_answer (replay_of input)
+input_answer (Err fault) = fault_answer fault
 
 -- The answer to an input's bytes.
 unfoldable pub bytes_answer : List ℕ → Answer
-bytes_answer bytes = if nat_le (length bytes) MOST_INPUT then input_answer (input_of bytes) else too_large
+bytes_answer bytes = if nat_le (length bytes) MOST_INPUT then input_answer (input_of bytes) else too_large (codes "input")
 
 -- the one word `replay`
 unfoldable pub is_replay : List (List ℕ) → Bool

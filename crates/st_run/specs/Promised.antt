@@ -1,5 +1,5 @@
 -- What is promised of an input's bytes where the program answers with a report.
-use Rattle.std.specs.Prelude.{◌≡◌, ℕ, List, Some}
+use Rattle.std.specs.Prelude.{◌≡◌, ℕ, List, Ok}
 use Rattle.st_input.specs.declared.input.Input.{Input}
 use Rattle.st_input.specs.Input.{input_of}
 use Rattle.st_replay.specs.Lines.{events_in}
@@ -9,5 +9,5 @@ use Rattle.st_promises.specs.Promises.{AlwaysKeepsPromises}
 -- each update sealed by its client and run at most once, and no next number left in hand.
 pub record IsPromised (bytes : List ℕ) : Type 0 where
   pub input : Input
-  pub spells : input_of bytes ≡ Some input
+  pub spells : input_of bytes ≡ Ok input
   pub keeps : AlwaysKeepsPromises input.deployment (events_in input.lines)

@@ -1,18 +1,17 @@
 ghost use Rattle.std.specs.Prelude.{◌≡◌, ◌≤◌, ◌∷◌, ◌++◌, [], map, length, string_bytes, IfOk, ◌↔◌};
-ghost use Rattle.st_run.specs.Answers.{answer_in, bad_input, bytes_answer, input_answer, is_replay, line, replay_answer, too_large, usage};
+ghost use Rattle.st_run.specs.Answers.{at_line, bad_input, bytes_answer, ended_answer, fault_answer, is_replay, line, replay_answer, too_large, usage};
 ghost use Rattle.st_replay.specs.Replay.{replay_of};
 ghost use Rattle.std.specs.List.{All};
-ghost use Rattle.st_schedule.specs.Ranges.{IsBuilt};
+ghost use Rattle.st_config.specs.Built.{IsBuilt};
 ghost use Rattle.st_config.specs.Taken.{IsTaken};
-ghost use Rattle.st_input.specs.Input.{input_of};
 ghost use Rattle.st_run.specs.Promised.{IsPromised};
 ghost use Rattle.st_run.specs.declared.status.Status.TheVariants as statuses;
 
 use crate::status::Status;
 use st_fields::{Bytes, Seq, WordsError};
-use st_input::{Input, InputError, MOST_INPUT, read_input};
+use st_input::{Input, InputError, InputFault, MOST_INPUT, read_input};
 use st_replay::{ReplayError, replay};
-use std::alloc::{AllocError, Global};
+use std::alloc::Global;
 
 /// What a run answers.
 #[derive(Debug, Drop)]
@@ -56,28 +55,59 @@ pub(crate) fn usage(alloc: Global) -> Result<Answer, WordsError>
     })
 }
 
-/// The input is none that is taken.
+/// The input is none that is taken: what is wrong with it.
 #[tactic(auto, unfolding(crate::specs::Answers::bad_input))]
-fn bad_input(alloc: Global) -> Result<Answer, WordsError>
-    ensures { IfOk result (λ answer. answer ≡ bad_input) }
+fn bad_input(alloc: Global, what: &str) -> Result<Answer, WordsError>
+    ensures { IfOk result (λ answer. answer ≡ bad_input what.now) }
 {
-    let text = line(alloc, "bad input")?;
+    let text = format!(in alloc; "bad input: {what}")?;
     Ok(Answer {
         status: Status::BadInput,
-        text,
+        text: line(alloc, text.as_str())?,
     })
 }
 
-/// The input is too long, or too many messages would be sent.
+/// Something is larger than it may be.
 #[tactic(auto, unfolding(crate::specs::Answers::too_large))]
-pub(crate) fn too_large(alloc: Global) -> Result<Answer, WordsError>
-    ensures { IfOk result (λ answer. answer ≡ too_large) }
+pub(crate) fn too_large(alloc: Global, what: &str) -> Result<Answer, WordsError>
+    ensures { IfOk result (λ answer. answer ≡ too_large what.now) }
 {
-    let text = line(alloc, "too large")?;
+    let text = format!(in alloc; "too large: {what}")?;
     Ok(Answer {
         status: Status::TooLarge,
-        text,
+        text: line(alloc, text.as_str())?,
     })
+}
+
+/// A line by its number, and what of it.
+#[tactic(auto, unfolding(crate::specs::Answers::at_line))]
+fn at_line(alloc: Global, line: u32, what: &str) -> Result<String, WordsError>
+    ensures { IfOk result (λ text. string_bytes text ≡ at_line line what.now) }
+{
+    Ok(format!(in alloc; "line {line}{what}")?)
+}
+
+/// What is wrong with a line of the input.
+fn bad_line(alloc: Global, line: u32, what: &str) -> Result<Answer, WordsError>
+    ensures { IfOk result (λ answer. answer ≡ bad_input (at_line line what.now)) }
+{
+    bad_input(alloc, at_line(alloc, line, what)?.as_str())
+}
+
+/// The answer to an input with this fault.
+#[tactic(auto, unfolding(crate::specs::Answers::fault_answer))]
+fn fault_answer(alloc: Global, fault: InputFault) -> Result<Answer, WordsError>
+    ensures { IfOk result (λ answer. answer ≡ fault_answer fault) }
+{
+    match fault {
+        InputFault::Utf8 => bad_input(alloc, "utf-8"),
+        InputFault::NoSeparator => bad_input(alloc, "no separator"),
+        InputFault::Deployment => bad_input(alloc, "deployment: not-built"),
+        InputFault::TooManyLines { line } => too_large(alloc, at_line(alloc, line, "")?.as_str()),
+        InputFault::LongLine { line } => too_large(alloc, at_line(alloc, line, "")?.as_str()),
+        InputFault::Grammar { line } => bad_line(alloc, line, ": grammar"),
+        InputFault::NotBuilt { line } => bad_line(alloc, line, ": not-built"),
+    }
 }
 
 /// The answer to an input's bytes.
@@ -89,12 +119,13 @@ pub(crate) fn bytes_answer(alloc: Global, bytes: &[u8]) -> Result<Answer, WordsE
 {
     match read_input(alloc, bytes) {
         Ok(input) => replay_answer(alloc, &input),
-        Err(InputError::BadInput) => bad_input(alloc),
+        Err(InputError::Fault(fault)) => fault_answer(alloc, fault),
         Err(InputError::OutOfMemory) => Err(WordsError::OutOfMemory),
     }
 }
 
 /// The answer to a replayed input.
+#[tactic(auto, unfolding(crate::specs::Answers::ended_answer))]
 fn replay_answer(alloc: Global, input: &Input) -> Result<Answer, WordsError>
     requires taken { IsTaken input.now.deployment }
     requires built { All (λ x. IsBuilt x.line) input.now.lines }
@@ -105,8 +136,8 @@ fn replay_answer(alloc: Global, input: &Input) -> Result<Answer, WordsError>
             status: Status::Ok,
             text,
         }),
-        Err(ReplayError::BadReference) => bad_input(alloc),
-        Err(ReplayError::TooMany) => too_large(alloc),
+        Err(ReplayError::BadReference { line }) => bad_line(alloc, line, ": reference"),
+        Err(ReplayError::TooMany { .. }) => too_large(alloc, "messages"),
         Err(ReplayError::OutOfMemory) => Err(WordsError::OutOfMemory),
     }
 }

@@ -6,9 +6,9 @@ ghost use Rattle.st_replay.specs.Replay.{Ended, Reported, replay_of};
 
 /// The definitions, computed, whatever the id and the seed are: an update of the one client through the
 /// one server comes to the report that `small_rows` says, no event lines come to the one that
-/// `idle_rows` says, and an update of a client that does not exist ends the world.
+/// `idle_rows` says, and an update of a client that does not exist ends the world at its line.
 pub fn a_small_replay()
     ensures runs { (id : ℕ) (seed : List ℕ) → replay_of (small_input id seed 0) ≡ Reported (report (small_rows id)) }
     ensures rests { (id : ℕ) (seed : List ℕ) → replay_of (idle_input id seed) ≡ Reported (report (idle_rows id)) }
-    ensures ends { (id : ℕ) (seed : List ℕ) → replay_of (small_input id seed 1) ≡ Ended BadReference }
+    ensures ends { (id : ℕ) (seed : List ℕ) → replay_of (small_input id seed 1) ≡ Ended 9 BadReference }
 {}

@@ -80,7 +80,7 @@ fn answer<S: Source>(alloc: Global, words: &[String], source: &mut S) -> Result<
     }
     match read_all(alloc, source, MOST_INPUT) {
         Ok(bytes) => Ok(bytes_answer(alloc, bytes.as_slice())?),
-        Err(ReadError::TooLong) => Ok(too_large(alloc)?),
+        Err(ReadError::TooLong) => Ok(too_large(alloc, "input")?),
         Err(ReadError::Failed) => Err(Stopped::ReadFault),
         Err(ReadError::OutOfMemory) => Err(Stopped::OutOfMemory),
     }

@@ -64,17 +64,97 @@ fn an_operation_has_at_most_1024_bytes(rt: HostRuntime) -> Result<(), Fail> {
     text.push_str("ab")?;
     let (status, written) = ran(alloc, &["replay"], text.as_bytes())?;
     assert_eq!(rt; status, Status::BadInput);
-    assert!(rt; written.as_slice() == b"bad input\n".as_slice());
+    assert!(rt; written.as_slice() == b"bad input: line 9: grammar\n".as_slice());
     Ok(())
 }
 
 #[test]
-fn a_client_that_does_not_exist_is_a_bad_input(rt: HostRuntime) -> Result<(), Fail> {
+fn faults_before_the_event_lines(rt: HostRuntime) -> Result<(), Fail> {
     let alloc = rt.alloc();
-    let text = input(alloc, "client 1 aa\n")?;
+    for (input, wanted) in [
+        (b"\xff\n---\n".as_slice(), "bad input: utf-8\n"),
+        (b"id = 7\n----\n".as_slice(), "bad input: no separator\n"),
+        (
+            b"id = 7\n---\nflow\n".as_slice(),
+            "bad input: deployment: not-built\n",
+        ),
+    ] {
+        let (status, written) = ran(alloc, &["replay"], input)?;
+        assert_eq!(rt; status.exit_code(), 4);
+        assert!(rt; written.as_slice() == wanted.as_bytes());
+    }
+    Ok(())
+}
+
+#[test]
+fn faults_of_event_lines(rt: HostRuntime) -> Result<(), Fail> {
+    let alloc = rt.alloc();
+    for (lines, wanted) in [
+        (
+            "# first\n\nflow 0\nflow 01",
+            "bad input: line 11: grammar\n",
+        ),
+        ("flow 1\nshow 0\nflow\n", "bad input: line 10: not-built\n"),
+        ("flow 1\nclient 1 aa\n", "bad input: line 10: reference\n"),
+        (
+            "client 1 aa\nflow 1\nflow\n",
+            "bad input: line 11: grammar\n",
+        ),
+    ] {
+        let text = input(alloc, lines)?;
+        let (status, written) = ran(alloc, &["replay"], text.as_bytes())?;
+        assert_eq!(rt; status, Status::BadInput);
+        assert!(rt; written.as_slice() == wanted.as_bytes());
+    }
+    Ok(())
+}
+
+/// The header, and a text of so many kibibytes after it.
+fn long_input(alloc: Global, kibibytes: u32) -> Result<String, WordsError> {
+    let mut block = String::new(alloc);
+    for _byte in 0..1024 {
+        block.push_str("x")?;
+    }
+    let mut text = input(alloc, "")?;
+    for _block in 0..kibibytes {
+        text.push_str(block.as_str())?;
+    }
+    Ok(text)
+}
+
+#[test]
+fn a_line_has_at_most_9437184_bytes(rt: HostRuntime) -> Result<(), Fail> {
+    let alloc = rt.alloc();
+    let mut text = long_input(alloc, 9216)?;
+    let (_, written) = ran(alloc, &["replay"], text.as_bytes())?;
+    assert!(rt; written.as_slice() == b"bad input: line 9: grammar\n".as_slice());
+    text.push_str("x")?;
     let (status, written) = ran(alloc, &["replay"], text.as_bytes())?;
-    assert_eq!(rt; status.exit_code(), 4);
-    assert!(rt; written.as_slice() == b"bad input\n".as_slice());
+    assert_eq!(rt; status.exit_code(), 10);
+    assert!(rt; written.as_slice() == b"too large: line 9\n".as_slice());
+    Ok(())
+}
+
+#[test]
+fn an_input_has_at_most_67108864_bytes(rt: HostRuntime) -> Result<(), Fail> {
+    let alloc = rt.alloc();
+    let text = long_input(alloc, 65_536)?;
+    let (status, written) = ran(alloc, &["replay"], text.as_bytes())?;
+    assert_eq!(rt; status, Status::TooLarge);
+    assert!(rt; written.as_slice() == b"too large: input\n".as_slice());
+    Ok(())
+}
+
+#[test]
+fn an_input_has_at_most_65536_event_lines(rt: HostRuntime) -> Result<(), Fail> {
+    let alloc = rt.alloc();
+    let mut text = input(alloc, "# first\n")?;
+    for _line in 0..65_537 {
+        text.push_str("flow 1\n")?;
+    }
+    let (status, written) = ran(alloc, &["replay"], text.as_bytes())?;
+    assert_eq!(rt; status, Status::TooLarge);
+    assert!(rt; written.as_slice() == b"too large: line 65546\n".as_slice());
     Ok(())
 }
 
@@ -82,12 +162,13 @@ fn a_client_that_does_not_exist_is_a_bad_input(rt: HostRuntime) -> Result<(), Fa
 fn message_65537_is_too_much(rt: HostRuntime) -> Result<(), Fail> {
     let alloc = rt.alloc();
     let mut text = input(alloc, "")?;
-    for _line in 0..65_537 {
+    for _line in 0..65_535 {
         text.push_str("client 0 aa\n")?;
     }
+    text.push_str("flow 4000000\n")?;
     let (status, written) = ran(alloc, &["replay"], text.as_bytes())?;
     assert_eq!(rt; status, Status::TooLarge);
-    assert!(rt; written.as_slice() == b"too large\n".as_slice());
+    assert!(rt; written.as_slice() == b"too large: messages\n".as_slice());
     Ok(())
 }
 

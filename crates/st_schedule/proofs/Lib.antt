@@ -1,2 +1,4 @@
 -- Lemmas.
+pub mod KindLaws
+pub mod LineLaws
 pub mod WordLaws

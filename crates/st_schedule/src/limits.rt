@@ -15,3 +15,6 @@ pub const MOST_OPERATION: usize = 1_024;
 
 /// How many messages one flow delivers at most.
 pub const MOST_FLOW: u32 = 4_000_000;
+
+/// Which device call from now on a stop may set to fail at most.
+pub const MOST_CALL: u32 = 65_536;

@@ -1,3 +1,4 @@
 -- Lemmas.
 pub mod HexadecimalLaws
 pub mod NumberLaws
+pub mod PartLaws

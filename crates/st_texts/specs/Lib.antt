@@ -1,3 +1,4 @@
 -- The definitions that contracts cite.
 pub mod Hexadecimal
 pub mod Numbers
+pub mod Parts

@@ -1,5 +1,6 @@
-ghost use Rattle.std.specs.Prelude.{◌≡◌, ◌≤◌, ◌*◌, length, IfOk, IfSome};
-ghost use Rattle.st_texts.specs.Hexadecimal.{hex_bytes};
+ghost use Rattle.std.specs.Prelude.{◌≡◌, ◌≤◌, ◌*◌, ◌++◌, ℕ, List, Some, length, string_bytes, IfOk, IfSome, OnOk};
+ghost use Rattle.hex.specs.Hex.{IsBytes};
+ghost use Rattle.st_texts.specs.Hexadecimal.{hex_bytes, hex_text};
 
 use hex::FromHexError;
 use st_fields::{Bytes, Seq};
@@ -24,3 +25,23 @@ pub fn read_hex(alloc: Global, text: &str) -> Result<Option<Bytes>, AllocError>
         Err(_) => Ok(None),
     }
 }
+
+/// Adds bytes in lower-case hexadecimal to a text, `-` for none. Where memory is refused, a part of it may
+/// stand in `out`.
+#[tactic(auto, unfolding(crate::specs::Hexadecimal::hex_text))]
+pub fn put_hex(alloc: Global, out: &mut String, bytes: &[u8]) -> Result<(), AllocError>
+    ensures { OnOk result (string_bytes out.new ≡ string_bytes out.old ++ hex_text bytes.now) }
+{
+    if bytes.is_empty() {
+        out.push_str("-")?;
+    } else {
+        let text = hex::encode(alloc, bytes)?;
+        out.push_str(text.as_str())?;
+    }
+    Ok(())
+}
+
+/// The text of bytes is read back as these bytes.
+pub fn bytes_have_a_text()
+    ensures { (bytes : List ℕ) → IsBytes bytes → hex_bytes (hex_text bytes) ≡ Some bytes }
+{}

@@ -1,4 +1,7 @@
-use crate::{read_hex, read_number};
+use crate::{
+    after_front, before_end, bytes_have_a_text, numbers_are_their_digits, put_hex, read_hex,
+    read_number,
+};
 use std::test::Fail;
 
 #[test]
@@ -38,4 +41,28 @@ fn hexadecimal_of_either_case(rt: HostRuntime) -> Result<(), Fail> {
         assert!(rt; read_hex(alloc, text)?.is_none(), "{text}");
     }
     Ok(())
+}
+
+#[test]
+fn hexadecimal_is_printed_in_lower_case(rt: HostRuntime) -> Result<(), Fail> {
+    let mut out = String::from_str(rt.alloc(), "show ")?;
+    put_hex(rt.alloc(), &mut out, &[0, 255, 169])?;
+    put_hex(rt.alloc(), &mut out, &[])?;
+    assert!(rt; out.as_str() == "show 00ffa9-");
+    Ok(())
+}
+
+#[test]
+fn laws_ask_nothing(rt: HostRuntime) {
+    numbers_are_their_digits();
+    bytes_have_a_text();
+    assert!(rt; true);
+}
+
+#[test]
+fn fronts_and_ends_are_taken_off(rt: HostRuntime) {
+    assert_eq!(rt; after_front("c7", "c"), Some("7"));
+    assert_eq!(rt; after_front("7", "c"), None);
+    assert_eq!(rt; before_end("7\"", "\""), Some("7"));
+    assert_eq!(rt; before_end("7", "\""), None);
 }

@@ -2,7 +2,7 @@ ghost use Rattle.std.specs.Prelude.{◌≡◌, ◌≢◌, ℕ, Some, Err, IfOk, 
 ghost use Rattle.st_words.specs.declared.deployment.Deployment.{Deployment};
 ghost use Rattle.st_message.specs.declared.message.Message.{Message};
 ghost use Rattle.st_schedule.specs.declared.line.Line.TheVariants as lines;
-ghost use Rattle.st_schedule.specs.Ranges.{IsBuilt};
+ghost use Rattle.st_config.specs.Built.{IsBuilt};
 ghost use Rattle.st_protocol.specs.World as model;
 ghost use Rattle.st_protocol.specs.Schedule.{step};
 ghost use Rattle.st_server.specs.Deployed.{world_deployment};

@@ -11,4 +11,4 @@ pub returns-clause-submitted : goal.returns-clause-submitted
 returns-clause-submitted g c = λ d world client op nothing_written plain. plain_submits d nothing_written world client op plain
 
 pub returns-clause-stepped : goal.returns-clause-stepped
-returns-clause-stepped g c = λ d world line nothing_written built plain. plain_step d nothing_written world line built plain
+returns-clause-stepped g c = λ d world line nothing_written unset plain. plain_step d nothing_written world line unset plain

@@ -5,15 +5,16 @@ use Rattle.std.proofs.lemmas.Bool.{eqb-true}
 use Rattle.std.proofs.lemmas.List.{nil_from_length}
 use Rattle.std.proofs.lemmas.Result.{err_from_is_err_and}
 use Rattle.st_input.specs.Input.{events_from}
-use Rattle.st_input.proofs.EventLaws.{goes_on, bad_line, at_end, refused}
+use Rattle.st_input.proofs.EventLaws.{goes_on, stops, at_end, refused}
 use Rattle.st_input.proofs.events.read_events.Goals as goal
 
 pub returns-in_err-read_event-clause-read : goal.returns-in_err-read_event-clause-read
 returns-in_err-read_event-clause-read c =
     let p = err_from_is_err_and c.from_residual.result c.from_residual.ensures.1 in
-    refused c.from_residual.result c.in_err-read_event.field-0.0 (events_from c.args.first (lines c.args.text.now)) (p.1 ∙ ap Err p.2)
-    (λ bad. bad_line c.args.text.now c.args.first c.loop-rest.events c.loop-rest.number c.loop-rest.rest.now c.first_line.result.0.now (lines c.first_line.result.1.now)
-    c.loop-rest.invariant.reading c.first_line.ensures.lines (c.read_event.ensures.bad (c.in_err-read_event.was ∙ ap Err bad)))
+    refused c.from_residual.result c.in_err-read_event.field-0.0 (events_from c.args.first 0 (lines c.args.text.now)) (p.1 ∙ ap Err p.2)
+    (λ fault is. stops c.args.text.now c.args.first c.loop-rest.events c.loop-rest.number c.loop-rest.rest.now c.first_line.result.0.now (lines c.first_line.result.1.now) fault
+    c.loop-rest.invariant.reading c.first_line.ensures.lines
+    (rw (c.in_err-read_event.was ∙ ap Err is) at c.read_event.ensures.read))
 
 pub loop-rest-preserved : goal.loop-rest-preserved
 loop-rest-preserved c =

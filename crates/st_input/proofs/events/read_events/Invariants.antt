@@ -3,7 +3,7 @@ use denote.Text.{Utf8}
 use denote.Shadow.{shadow}
 use Rattle.std.proofs.Common.{length}
 use Rattle.std.specs.List.{All}
-use Rattle.st_schedule.specs.Ranges.{IsBuilt}
+use Rattle.st_config.specs.Built.{IsBuilt}
 use Rattle.st_input.proofs.EventLaws.{IsReading}
 use Rattle.st_input.proofs.events.read_events.Given as goal
 

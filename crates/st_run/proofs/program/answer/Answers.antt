@@ -1,5 +1,6 @@
 -- By the words and by what was read.
 use Rattle.std.proofs.Common.{◌∙◌, ◌≤◌, Some, length, ap, sym, subst, arith}
+use Rattle.std.specs.Prelude.{codes}
 use Rattle.std.proofs.lemmas.List.{drop_all}
 use Rattle.st_run.specs.declared.answer.Answer.{Answer}
 use Rattle.st_run.specs.Answers.{bytes_answer}
@@ -29,7 +30,7 @@ returns-in_ok-too_large-in-Err-TooLong-clause-told g c = λ answer is.
     (λ input told. c.in_ok-too_large-in-Err-TooLong.ensures ∙ sym (of_many_bytes _ input test (rw c.in-Err-TooLong.field-0-is at (c.in-Err-TooLong.ensures.told input told)).0))
 
 pub returns-in_ok-too_large-in-Err-TooLong-clause-answers : goal.returns-in_ok-too_large-in-Err-TooLong-clause-answers
-returns-in_ok-too_large-in-Err-TooLong-clause-answers g c = rw c.in_ok-too_large-in-Err-TooLong.ensures too_large_answered
+returns-in_ok-too_large-in-Err-TooLong-clause-answers g c = rw c.in_ok-too_large-in-Err-TooLong.ensures (too_large_answered (codes "input"))
 
 pub returns-in_ok-bytes_answer-in-Ok-clause-rest : goal.returns-in_ok-bytes_answer-in-Ok-clause-rest
 returns-in_ok-bytes_answer-in-Ok-clause-rest g c = λ test input told.
@@ -40,7 +41,7 @@ pub returns-in_ok-too_large-in-Err-TooLong-clause-rest : goal.returns-in_ok-too_
 returns-in_ok-too_large-in-Err-TooLong-clause-rest g c = λ test input told. (rw c.in-Err-TooLong.field-0-is at (c.in-Err-TooLong.ensures.told input told)).1
 
 pub returns-in_ok-too_large-in-Err-TooLong-clause-whole : goal.returns-in_ok-too_large-in-Err-TooLong-clause-whole
-returns-in_ok-too_large-in-Err-TooLong-clause-whole g c = λ other. absurd (other (ap (λ (a : Answer). a.status) c.in_ok-too_large-in-Err-TooLong.ensures ∙ too_large_is))
+returns-in_ok-too_large-in-Err-TooLong-clause-whole g c = λ other. absurd (other (ap (λ (a : Answer). a.status) c.in_ok-too_large-in-Err-TooLong.ensures ∙ too_large_is (codes "input")))
 
 pub returns-then-not-is_replay-clause-promised : goal.returns-then-not-is_replay-clause-promised
 returns-then-not-is_replay-clause-promised g c = λ bytes told ok. absurd (never_ok_usage _ c.in_ok-usage.ensures ok)
@@ -50,4 +51,4 @@ returns-in_ok-bytes_answer-in-Ok-clause-promised g c =
     λ bytes told ok. subst IsPromised (c.as_slice.ensures ∙ (c.in-Ok.ensures.told bytes told).0) (c.in_ok-bytes_answer-in-Ok.ensures.promised ok)
 
 pub returns-in_ok-too_large-in-Err-TooLong-clause-promised : goal.returns-in_ok-too_large-in-Err-TooLong-clause-promised
-returns-in_ok-too_large-in-Err-TooLong-clause-promised g c = λ bytes told ok. absurd (never_ok_too_large _ c.in_ok-too_large-in-Err-TooLong.ensures ok)
+returns-in_ok-too_large-in-Err-TooLong-clause-promised g c = λ bytes told ok. absurd (never_ok_too_large (codes "input") _ c.in_ok-too_large-in-Err-TooLong.ensures ok)

@@ -1,5 +1,5 @@
 -- The words are three.
-use Rattle.std.proofs.Common.{◌≡◌, ◌∙◌, ◌≤◌, ◌<◌, length}
+use Rattle.std.proofs.Common.{◌∙◌, ◌≤◌, ◌<◌, length}
 use Rattle.st_schedule.specs.Lines.{words}
 use Rattle.st_schedule.proofs.WordLaws.{event_of-three}
 use Rattle.st_schedule.proofs.read.read_event.Goals as goal

@@ -7,7 +7,7 @@ use Rattle.std.proofs.Math.Seq.{take-append_seam, drop-append_seam}
 use Rattle.std.proofs.lemmas.Bool.{cond-true, cond-false, false_from_ne_true}
 use Rattle.std.proofs.lemmas.List.{take-append-drop}
 use Rattle.std.proofs.lemmas.Slice.Eq.{bytes_eq-Decides}
-use Rattle.st_config.specs.Parts.{after_front, before_end}
+use Rattle.st_texts.specs.Parts.{after_front, before_end}
 
 -- the text begins with this front where the test says so
 front_is : (n s : List ℕ) → bytes_eq n (take (length n) s) ≡ true → s ≡ n ++ drop (length n) s

@@ -1,0 +1,32 @@
+ghost use Rattle.std.specs.Prelude.{◌≡◌};
+ghost use Rattle.st_replay.specs.declared.error.ReplayError.TheVariants as errors;
+
+use st_fields::WordsError;
+use st_report::ReportError;
+
+/// Why an input has no report. Lines are numbered in the whole input, from 1.
+#[derive(Clone, Copy, Debug, PartialEq, Eq)]
+pub enum ReplayError {
+    /// This line names what does not exist.
+    BadReference { line: u32 },
+    /// At this line too many messages would be sent.
+    TooMany { line: u32 },
+    /// Memory was refused.
+    OutOfMemory,
+}
+
+impl From<WordsError> for ReplayError {
+    ghost from_gives = { λ _ e. e ≡ errors.OutOfMemory };
+
+    fn from(_: WordsError) -> ReplayError {
+        ReplayError::OutOfMemory
+    }
+}
+
+impl From<ReportError> for ReplayError {
+    ghost from_gives = { λ _ e. e ≡ errors.OutOfMemory };
+
+    fn from(_: ReportError) -> ReplayError {
+        ReplayError::OutOfMemory
+    }
+}
