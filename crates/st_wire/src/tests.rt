@@ -1,8 +1,7 @@
 //! The bytes, the places of faults and the places of seals stand as `scripts/wire_bytes.py` prints them.
 
 use super::*;
-use st_fields::{Bytes, Numbered, Seq};
-use st_message::Message;
+use st_fields::{Bytes, Seq};
 use st_words::{ClientId, Deployment, SealKind, ServerId, ServiceKind, StatementKind, Who};
 use std::alloc::{AllocError, Global};
 use std::test::*;
@@ -44,49 +43,48 @@ const ASK: &[u8] = b"STM1\0\0\0\0\0\0\0\x07\x09\x01\x02\0\0\0\x03\0\0\0\x04\0\0\
 const REPLY: &[u8] =
     b"STM1\0\0\0\0\0\0\0\x07\x0a\x0a\x02\x03\0\0\0\x09\0\0\0\x04\0\x02ok\x01\0\x04done";
 
-/// The number of the kind of a message of deployment 7, and its bytes again.
-fn again(alloc: Global, bytes: &[u8]) -> Result<(u8, Bytes), MessageError> {
+/// The bytes of a message of deployment 7, again.
+fn again(alloc: Global, bytes: &[u8]) -> Result<Bytes, MessageError> {
     let message = decode(alloc, 7, bytes)?;
-    let number = MessageKind::of(&message).number();
-    Ok((number, encode(alloc, 7, &message)?))
+    encode(alloc, 7, &message)
+}
+
+/// The kind of a message of deployment 7.
+fn kind(alloc: Global, bytes: &[u8]) -> Result<MessageKind, MessageError> {
+    let message = decode(alloc, 7, bytes)?;
+    Ok(MessageKind::of(&message))
 }
 
 #[test]
 fn each_kind_both_ways(rt: HostRuntime) -> Result<(), Fail> {
-    let table: [(u8, &[u8]); 13] = [
-        (1, SMALLEST),
-        (1, UPDATE),
-        (2, ASSIGN),
-        (2, ASSIGN_NOOP),
-        (3, SHARE),
-        (4, CERTIFICATE),
-        (5, ORDER_PROOF),
-        (6, REPORT),
-        (7, BUNDLE),
-        (8, LOCAL_VIEW),
-        (8, VIEW),
-        (9, ASK),
-        (10, REPLY),
+    let table: [&[u8]; 13] = [
+        SMALLEST,
+        UPDATE,
+        ASSIGN,
+        ASSIGN_NOOP,
+        SHARE,
+        CERTIFICATE,
+        ORDER_PROOF,
+        REPORT,
+        BUNDLE,
+        LOCAL_VIEW,
+        VIEW,
+        ASK,
+        REPLY,
     ];
-    for (number, bytes) in table {
-        let (kind, spelled) = again(rt.alloc(), bytes).ok().ok_or("a message")?;
-        assert_eq!(rt; kind, number);
-        assert!(rt; spelled.as_slice() == bytes, "at {number}");
+    for bytes in table {
+        match again(rt.alloc(), bytes) {
+            Ok(spelled) => assert!(rt; spelled.as_slice() == bytes),
+            Err(_) => assert!(rt; false),
+        }
     }
     Ok(())
 }
 
 #[test]
-fn an_update_is_what_it_spells(rt: HostRuntime) -> Result<(), Fail> {
-    let message = decode(rt.alloc(), 7, SMALLEST).ok().ok_or("a message")?;
-    let Message::Update { update, seal } = &message else {
-        return Err(Fail::from("an Update"));
-    };
-    assert_eq!(rt; update.client, ClientId(0));
-    assert_eq!(rt; update.time, 1);
-    assert!(rt; update.op.as_slice() == b"hi".as_slice());
-    assert!(rt; seal.as_slice() == &SMALLEST[25..]);
-    Ok(())
+fn a_message_is_of_its_kind(rt: HostRuntime) {
+    assert!(rt; matches!(kind(rt.alloc(), SMALLEST), Ok(MessageKind::Update)));
+    assert!(rt; matches!(kind(rt.alloc(), ASK), Ok(MessageKind::Ask)));
 }
 
 /// Why the bytes are no message of a deployment.
