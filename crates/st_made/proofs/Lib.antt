@@ -1,0 +1,4 @@
+-- Lemmas.
+pub mod KeyLaws
+pub mod NotedLaws
+pub mod HandLaws

@@ -1,0 +1,10 @@
+//! Which seals correct parties handed out, looked up by the party and the statement.
+#![tactic(auto)]
+
+mod key;
+mod made;
+#[cfg(test)]
+mod tests;
+mod widths;
+
+pub use made::Made;
