@@ -1,17 +1,23 @@
--- Which event lines are taken today: a client's update, and a flow.
-use Rattle.std.specs.Prelude.{ℕ, ◌≤◌, Bool, true, false, length}
+-- Which event lines are taken today: those that tell a client, move messages, bring bytes in from outside, or show a
+-- message.
+use Rattle.std.specs.Prelude.{◌≡◌, Bool, true, false}
 use Rattle.st_schedule.specs.declared.line.Line.{Line}
 use Rattle.st_schedule.specs.declared.line.Line.TheVariants as lines
-use Rattle.st_schedule.specs.declared.limits.TheConstants.{MOST_OPERATION, MOST_FLOW}
+use Rattle.st_schedule.specs.Ranges.{KeepsLine, FitsLine}
 
 -- a line that is taken
 abbrev pub is_built : Line → Bool
 is_built (lines.Client client op) = true
+is_built (lines.Deliver message to) = true
+is_built (lines.Drop message to) = true
+is_built (lines.Lose to) = true
 is_built (lines.Flow pairs) = true
+is_built (lines.Raw to bytes) = true
+is_built (lines.Show message) = true
 is_built _ = false
 
--- a line that is taken, within its ranges
-abbrev pub IsBuilt : Line → Type 0
-IsBuilt (lines.Client client op) = length op ≤ MOST_OPERATION
-IsBuilt (lines.Flow pairs) = (1 ≤ pairs) × (pairs ≤ MOST_FLOW)
-IsBuilt _ = ⊥
+-- a line that is taken, within its ranges and with numbers and bytes of their widths
+pub record IsBuilt (line : Line) : Type 0 where
+  pub keeps : KeepsLine line
+  pub fits : FitsLine line
+  pub built : is_built line ≡ true

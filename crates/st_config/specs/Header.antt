@@ -1,4 +1,5 @@
--- The header of an input: the deployment's lines `key = value`, one a key and in this order.
+-- The header of an input: the deployment's lines `key = value`, one a key and in this order. What keys HSS seals have
+-- is said on three lines more.
 use Rattle.std.specs.Prelude.{◌≡◌, ℕ, ◌-◌, ◌^◌, ◌==◌, if◌then◌else◌, List, [], ◌∷◌, length, Option, Some, None, Result, Ok, Err, bytes_eq, codes, option_and_then}
 use Rattle.std.specs.Str.Lines.{lines}
 use Rattle.st_texts.specs.Numbers.{number_in}
@@ -8,6 +9,7 @@ use Rattle.st_words.specs.declared.deployment.ServiceKind.{ServiceKind}
 use Rattle.st_words.specs.declared.deployment.ServiceKind.TheVariants as services
 use Rattle.st_words.specs.declared.deployment.SealKind.{SealKind}
 use Rattle.st_words.specs.declared.deployment.SealKind.TheVariants as seal_kinds
+use Rattle.st_hss_seal.specs.Keys.{is_choice}
 use Rattle.st_config.specs.declared.header.Counts.{Counts}
 use Rattle.st_config.specs.declared.header.ConfigError.{ConfigError}
 use Rattle.st_config.specs.declared.header.ConfigError.TheVariants.{NotTaken, OutOfMemory}
@@ -34,9 +36,25 @@ counts_of id sites f clients =
 abbrev pub service_named : List ℕ → Option ServiceKind
 service_named name = if bytes_eq name (codes "list") then Some services.List else None
 
--- how parties seal where it has this name
-abbrev pub seals_named : List ℕ → Option SealKind
-seals_named name = if bytes_eq name (codes "keyed") then Some seal_kinds.Keyed else None
+-- keyed seals, by this name
+abbrev pub keyed_named : List ℕ → Option SealKind
+keyed_named name = if bytes_eq name (codes "keyed") then Some seal_kinds.Keyed else None
+
+-- seals that are made
+abbrev pub chosen : SealKind → Option SealKind
+chosen kind = if is_choice kind then Some kind else None
+
+-- the HSS seals of these lines
+unfoldable pub keys_of : List ℕ → List ℕ → List ℕ → Option SealKind
+keys_of height width levels =
+    option_and_then (λ h. option_and_then (λ w. option_and_then (λ l. chosen (seal_kinds.Hss h w l))
+    (number_of (codes "levels") 0 255 levels))
+    (number_of (codes "width") 0 255 width))
+    (number_of (codes "height") 0 255 height)
+
+-- HSS seals, by this name and these lines
+abbrev pub hss_named : List ℕ → List ℕ → List ℕ → List ℕ → Option SealKind
+hss_named height width levels name = if bytes_eq name (codes "hss") then keys_of height width levels else None
 
 -- the 32 bytes that 64 hexadecimal digits write
 unfoldable pub seed_in : List ℕ → Option (List ℕ)
@@ -46,9 +64,13 @@ seed_in text = option_and_then (λ bytes. if length bytes == 32 then Some bytes 
 unfoldable pub service_of : List ℕ → Option ServiceKind
 service_of line = option_and_then service_named (text_of (codes "service") line)
 
--- how parties seal by this line
-unfoldable pub seals_of : List ℕ → Option SealKind
-seals_of line = option_and_then seals_named (text_of (codes "seals") line)
+-- how parties seal by this line alone
+unfoldable pub keyed_of : List ℕ → Option SealKind
+keyed_of line = option_and_then keyed_named (text_of (codes "seals") line)
+
+-- how parties seal by these lines
+unfoldable pub hss_of : List ℕ → List ℕ → List ℕ → List ℕ → Option SealKind
+hss_of line height width levels = option_and_then (hss_named height width levels) (text_of (codes "seals") line)
 
 -- the seed of this line
 unfoldable pub seed_of : List ℕ → Option (List ℕ)
@@ -69,18 +91,20 @@ deployment_with counts service seals seed =
       port = 47000;
     }
 
--- the deployment of these numbers and of the lines after them
-unfoldable pub rest_of : Option Counts → List ℕ → List ℕ → List ℕ → Option Deployment
+-- the deployment of these numbers and seals, and of the lines of its service and seed
+unfoldable pub rest_of : Option Counts → List ℕ → Option SealKind → List ℕ → Option Deployment
 rest_of counts service seals seed =
     option_and_then (λ c. option_and_then (λ kind. option_and_then (λ sealed. option_and_then (λ bytes. Some (deployment_with c kind sealed bytes))
     (seed_of seed))
-    (seals_of seals))
+    seals)
     (service_of service))
     counts
 
--- The deployment of these lines; every other list of lines is none.
+-- The deployment of these lines: seven with keyed seals, and ten with HSS seals. Every other list of lines is none.
 abbrev pub deployment_of_lines : List (List ℕ) → Option Deployment
-deployment_of_lines (id ∷ sites ∷ f ∷ clients ∷ service ∷ seals ∷ seed ∷ []) = rest_of (counts_of id sites f clients) service seals seed
+deployment_of_lines (id ∷ sites ∷ f ∷ clients ∷ service ∷ seals ∷ seed ∷ []) = rest_of (counts_of id sites f clients) service (keyed_of seals) seed
+deployment_of_lines (id ∷ sites ∷ f ∷ clients ∷ service ∷ seals ∷ height ∷ width ∷ levels ∷ seed ∷ []) =
+    rest_of (counts_of id sites f clients) service (hss_of seals height width levels) seed
 deployment_of_lines _ = None
 
 -- The deployment of a header's text. A line ends with a newline, or with a carriage return and a newline; the last

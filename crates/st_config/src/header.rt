@@ -1,19 +1,20 @@
-ghost use Rattle.std.specs.Prelude.{◌≡◌, ◌≤◌, ◌<◌, ◌+◌, ◌^◌, map, take, IfOk, IfSome};
+ghost use Rattle.std.specs.Prelude.{◌≡◌, ◌≤◌, ◌<◌, ◌+◌, ◌^◌, IsTrue, map, take, IfOk, IfSome};
 ghost use Rattle.std.specs.Str.Lines.{lines};
-ghost use Rattle.st_config.specs.Header.{Takes, counts_of, deployment_of_lines, header_of, rest_of, seals_of, seed_in, seed_of, service_of};
+ghost use Rattle.st_config.specs.Header.{Takes, chosen, counts_of, deployment_of_lines, header_of, hss_of, keyed_of, keys_of, rest_of, seed_in, seed_of, service_of};
 ghost use Rattle.st_config.specs.Taken.{AreTaken, IsTaken};
 ghost use Rattle.st_config.specs.declared.header.ConfigError.TheVariants as errors;
 ghost use Rattle.st_words.specs.declared.deployment.ServiceKind.TheVariants as services;
-ghost use Rattle.st_words.specs.declared.deployment.SealKind.TheVariants as seal_kinds;
+ghost use Rattle.st_hss_seal.specs.Keys.{is_choice};
 
 use crate::parts::{number_of, text_of};
 use st_fields::Seq;
+use st_hss_seal::is_choice;
 use st_texts::read_hex;
 use st_words::{Deployment, SealKind, ServiceKind};
 use std::alloc::{AllocError, Global};
 
-/// How many lines a header has.
-const LINES: usize = 7;
+/// How many lines a header has at most.
+const LINES: usize = 10;
 
 /// The greatest id of a deployment.
 const MOST_ID: u64 = 9_223_372_036_854_775_807;
@@ -72,13 +73,30 @@ fn read_deployment(alloc: Global, text: &str) -> Result<Option<Deployment>, Allo
     match lines.as_slice() {
         [id, sites, f, clients, service, seals, seed] => {
             let counts = read_counts(id, sites, f, clients);
+            let seals = read_keyed(seals);
+            Ok(read_rest(alloc, counts, service, seals, seed)?)
+        }
+        [
+            id,
+            sites,
+            f,
+            clients,
+            service,
+            seals,
+            height,
+            width,
+            levels,
+            seed,
+        ] => {
+            let counts = read_counts(id, sites, f, clients);
+            let seals = read_hss(seals, height, width, levels);
             Ok(read_rest(alloc, counts, service, seals, seed)?)
         }
         _ => Ok(None),
     }
 }
 
-/// The first lines of a text, one more than a header has: that many show that there are too many.
+/// The first lines of a text, one more than a header has at most: that many show that there are too many.
 fn first_lines(alloc: Global, text: &str) -> Result<Vec<&str>, AllocError>
     ensures { IfOk result (λ v. map (λ line. line.now) v.items ≡ take (LINES + 1) (lines text.now)) }
 {
@@ -103,24 +121,21 @@ fn read_counts(id: &str, sites: &str, f: &str, clients: &str) -> Option<Counts>
     })
 }
 
-/// The deployment of these numbers and of the lines after them.
+/// The deployment of these numbers and seals, and of the lines of its service and seed.
 #[tactic(auto, unfolding(crate::specs::Header::rest_of))]
 fn read_rest(
     alloc: Global,
     counts: Option<Counts>,
     service: &str,
-    seals: &str,
+    seals: Option<SealKind>,
     seed: &str,
 ) -> Result<Option<Deployment>, AllocError>
-    requires { IfSome counts AreTaken }
-    ensures value { IfOk result (λ d. d ≡ rest_of counts service.now seals.now seed.now) }
+    requires counts { IfSome counts AreTaken }
+    requires seals { IfSome seals (λ kind. IsTrue (is_choice kind)) }
+    ensures value { IfOk result (λ d. d ≡ rest_of counts service.now seals seed.now) }
     ensures taken { IfOk result (λ d. IfSome d IsTaken) }
 {
-    let (Some(counts), Some(service), Some(seals)) = (
-        counts,
-        read_service(service),
-        read_seals(seals),
-    ) else {
+    let (Some(counts), Some(service), Some(seals)) = (counts, read_service(service), seals) else {
         return Ok(None);
     };
     let Some(seed) = read_seed(alloc, seed)? else {
@@ -153,11 +168,11 @@ fn read_service(line: &str) -> Option<ServiceKind>
     }
 }
 
-/// How parties seal, by a line.
-#[tactic(auto, unfolding(crate::specs::Header::seals_of))]
-fn read_seals(line: &str) -> Option<SealKind>
-    ensures value { result ≡ seals_of line.now }
-    ensures taken { IfSome result (λ seals. seals ≡ seal_kinds.Keyed) }
+/// Keyed seals, where this line names them.
+#[tactic(auto, unfolding(crate::specs::Header::keyed_of))]
+fn read_keyed(line: &str) -> Option<SealKind>
+    ensures value { result ≡ keyed_of line.now }
+    ensures taken { IfSome result (λ kind. IsTrue (is_choice kind)) }
 {
     let name = text_of(line, "seals")?;
     if name == "keyed" {
@@ -165,6 +180,44 @@ fn read_seals(line: &str) -> Option<SealKind>
     } else {
         None
     }
+}
+
+/// HSS seals, where these lines name them and say their keys.
+#[tactic(auto, unfolding(crate::specs::Header::hss_of))]
+fn read_hss(line: &str, height: &str, width: &str, levels: &str) -> Option<SealKind>
+    ensures value { result ≡ hss_of line.now height.now width.now levels.now }
+    ensures taken { IfSome result (λ kind. IsTrue (is_choice kind)) }
+{
+    let name = text_of(line, "seals")?;
+    if name == "hss" {
+        read_keys(height, width, levels)
+    } else {
+        None
+    }
+}
+
+/// The HSS seals of these lines.
+#[tactic(auto, unfolding(crate::specs::Header::keys_of))]
+fn read_keys(height: &str, width: &str, levels: &str) -> Option<SealKind>
+    ensures value { result ≡ keys_of height.now width.now levels.now }
+    ensures taken { IfSome result (λ kind. IsTrue (is_choice kind)) }
+{
+    let height = number_of(height, "height", 0, 255)? as u8;
+    let width = number_of(width, "width", 0, 255)? as u8;
+    let levels = number_of(levels, "levels", 0, 255)? as u8;
+    chosen(SealKind::Hss {
+        height,
+        width,
+        levels,
+    })
+}
+
+/// Seals that are made.
+fn chosen(kind: SealKind) -> Option<SealKind>
+    ensures value { result ≡ chosen kind }
+    ensures taken { IfSome result (λ kind. IsTrue (is_choice kind)) }
+{
+    if is_choice(kind) { Some(kind) } else { None }
 }
 
 /// The seed that a line gives.

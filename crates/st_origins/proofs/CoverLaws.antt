@@ -18,9 +18,9 @@ use Rattle.st_message.specs.declared.message.Message.TheVariants as messages
 use Rattle.st_protocol.specs.Words.{Quorum, a_prepare, an_accept, site_of}
 use Rattle.st_protocol.specs.Keeping.{given}
 use Rattle.st_protocol.specs.Known.{Sealed, all_of, knows_site, knows_statement, knows_signed, knows_quorum, knows_sites, knows_proof, knows_report, knows, in_quorum, in_sites, in_proof, in_base, in_client_seal, in_report_as, in_report, in_reports, seals_of}
+use Rattle.st_ranges.proofs.ChoiceLaws.{append_parts}
 use Rattle.st_origins.specs.Passes.{StatementPasses, ProofPasses, ReportPasses, MessagePasses}
 use Rattle.st_origins.specs.Covers.{is_party, IsCovered, is_of_servers, is_report, is_formed}
-use Rattle.st_origins.proofs.ChoiceLaws.{append_parts}
 
 module _ (sites f clients : ℕ) (G : Sealed → Type 0) (of_site : ℕ → Statement) where
   -- there is a first word among those of a majority of sites, and it is known

@@ -33,8 +33,8 @@ use Rattle.st_protocol.specs.Forced.{forced_of}
 use Rattle.st_protocol.specs.Assigning.{fill}
 use Rattle.st_protocol.specs.Collecting.{make_report}
 use Rattle.st_protocol.specs.Duty.{Event, Deliver, LocalTimeout, GlobalTimeout, Tick, Reading, Faulty, Clean, Pen, assign_of, message_of, sealed, Course, begins, records, keeps, puts, emits, makes, message_in, statement_in, reports_as, base_proof, reports, replies, carries_change, carries_changes, keeps_all, emits_all, carries, of_share, of_certificate, of_local_words, of_view_proof, reports_at, union_made, of_bundle, of_kind, is_built_message, of_message, share_of, report_again, prepare_again, number_again, certificate_again, certificates_again, ask_to, tick_out, of_reading, of_event, fills_up, course, plan_by, plan_of, duty}
+use Rattle.st_ranges.proofs.ChoiceLaws.{either, chosen, either_has, append_all, to_list_all, all_below_all}
 use Rattle.st_origins.specs.Passes.{StatementPasses, ProofPasses, ReportPasses, MessagePasses, ReadingPasses, EventPasses, ChangePasses, HeardPasses, OutputPasses, ListsPass, PlanPasses}
-use Rattle.st_origins.proofs.ChoiceLaws.{either, chosen, either_has, append_all, to_list_all, all_below_all}
 use Rattle.st_origins.proofs.StateLaws.{SealingPasses, CompletedPasses, StatePasses, after_passes, hears_passes, questions_pass}
 use Rattle.st_origins.proofs.PartLaws.{FormPasses, OutPasses, StepPasses, AnswerPasses, forced_passes, fill_passes, update_answer, assign_answer, prepare_answer, proposal_share_answer, accept_share_answer, proposal_answer, accept_answer, order_proof_answer}
 use Rattle.st_origins.proofs.OtherPartLaws.{local_timeout_answer, global_timeout_answer, local_share_answer, local_proof_answer, global_share_answer, global_vc_answer, view_proof_answer, report_passes, report_answer, bundle_answer, union_share_answer, union_answer, ask_answer}

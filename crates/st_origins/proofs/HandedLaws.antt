@@ -9,7 +9,7 @@ use Rattle.st_message.specs.declared.made.MadeSeal.{MadeSeal}
 use Rattle.st_protocol.specs.Words.{same_who, same_statement}
 use Rattle.st_protocol.specs.World.{World, has_handed, hands}
 use Rattle.st_protocol.proofs.SameLaws.{same_who-Decides, same_statement-Decides}
-use Rattle.st_origins.proofs.ChoiceLaws.{either}
+use Rattle.st_ranges.proofs.ChoiceLaws.{either}
 
 -- a seal, as it is noted
 abbrev pub noted : Who → ℕ → Statement → MadeSeal

@@ -1,5 +1,4 @@
 -- Lemmas.
-pub mod ChoiceLaws
 pub mod StateLaws
 pub mod PartLaws
 pub mod OtherPartLaws

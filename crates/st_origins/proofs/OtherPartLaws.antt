@@ -29,8 +29,8 @@ use Rattle.st_protocol.specs.Forced.{item_at, item_view, item_local, higher_item
 use Rattle.st_protocol.specs.Views.{votes_for, has_voted, with_asked, asks_for, word_for, on_local_timeout, on_global_timeout, on_local_share, on_local_proof, on_global_share, on_global_vc, on_view_proof}
 use Rattle.st_protocol.specs.Collecting.{item_of, in_window, make_report, not_present, reports_kept, with_report, add_report, view_in, base_in, items_in, most, best_item, union_items, union_as, union, check_bundle, union_to, on_union_share, union_site, on_union}
 use Rattle.st_protocol.specs.Reconciling.{owed_proofs, owed_view, owed_local, answer}
+use Rattle.st_ranges.proofs.ChoiceLaws.{either, chosen, chosen_any, either_has, higher_has, append_all, to_list_all, all_below_all}
 use Rattle.st_origins.specs.Passes.{ItemPasses, StatementPasses, ProofPasses, ReportPasses}
-use Rattle.st_origins.proofs.ChoiceLaws.{either, chosen, chosen_any, either_has, higher_has, append_all, to_list_all, all_below_all}
 use Rattle.st_origins.proofs.StateLaws.{BackedPasses, SlotsPass}
 use Rattle.st_origins.proofs.PartLaws.{OutPasses, AnswerPasses, decides_passes, then_passes, making_passes, recording_passes, keeping_passes, putting_passes, when_passes, certifies_pass, item_passes}
 

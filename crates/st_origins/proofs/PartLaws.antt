@@ -32,8 +32,8 @@ use Rattle.st_protocol.specs.Step.{Answer, Refused, Steps, idle, then, making, r
 use Rattle.st_protocol.specs.Forced.{Forced, item_at, item_view, item_local, local_held, site_held, highest_item, above_zero, local_item, forced_of, waits, forced_above}
 use Rattle.st_protocol.specs.Assigning.{update_reasons, update_step, on_update, prepares, completes_prepare, keeps_prepare, assigns, keeps_assigned, assign_reasons, assign_step, on_assign, prepare_reasons, on_prepare, proposal_share_reasons, proposal_share_step, on_proposal_share, is_assigned, next_pending, fill_value, Filling, fill_makes, fill_number, fills, fill}
 use Rattle.st_protocol.specs.Ordering.{accept_share_reasons, accept_share_step, on_accept_share, proposal_reasons, proposal_step, on_proposal, names, words_proof, in_hand, executions, keeps_and_executes, accept_reasons, accept_step, on_accept, on_order_proof}
+use Rattle.st_ranges.proofs.ChoiceLaws.{either, chosen, either_has, first_has, higher_has, first_below_has, append_all}
 use Rattle.st_origins.specs.Passes.{UpdatePasses, ItemPasses, StatementPasses, ProofPasses, MessagePasses, ChangePasses, HeardPasses}
-use Rattle.st_origins.proofs.ChoiceLaws.{either, chosen, either_has, first_has, higher_has, first_below_has, append_all}
 use Rattle.st_origins.proofs.StateLaws.{SealingPasses, PendedPasses, HeldPasses, WordPasses, HandPasses, hand_takes_passes, hand_cuts_passes}
 
 module _ (test : Value → Bool) where

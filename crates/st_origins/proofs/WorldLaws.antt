@@ -1,6 +1,6 @@
 -- In a world of covered lines all values come from the updates that its clients handed out.
-use Rattle.std.proofs.Common.{◌≡◌, ℕ, ◌+◌, ◌-◌, Bool, true, false, IsTrue, cond, zero, suc, nat_eq, List, [], ◌∷◌, ◌++◌, get_or, refl, sym, ◌∙◌, subst, arith, map, ap}
-use Rattle.std.specs.Prelude.{◌&&◌, Option, Some, None, is_some, nat_le, slice_get}
+use Rattle.std.proofs.Common.{◌≡◌, ℕ, ◌+◌, ◌-◌, ◌^◌, ◌<◌, ◌≤◌, Bool, true, false, IsTrue, cond, zero, suc, nat_eq, List, [], ◌∷◌, ◌++◌, get_or, refl, sym, ◌∙◌, subst, arith, map, ap}
+use Rattle.std.specs.Prelude.{◌&&◌, Option, Some, None, is_some, nat_le, slice_get, length}
 use Rattle.std.specs.Option.{IfSome}
 use Rattle.std.specs.List.{AllByRecursion as Each, All, Contains}
 use Rattle.std.proofs.lemmas.Bool.{and_parts}
@@ -11,6 +11,7 @@ use Rattle.st_words.specs.declared.value.Value.{Value}
 use Rattle.st_words.specs.declared.value.Value.TheVariants as values
 use Rattle.st_words.specs.declared.statement.Statement.{Statement}
 use Rattle.st_words.specs.declared.statement.Statement.TheVariants.{Reply, ClientUpdate}
+use Rattle.st_words.specs.Ranges.{most_text}
 use Rattle.st_seal.specs.declared.quorum.Signed.{Signed}
 use Rattle.st_message.specs.declared.message.Message.{Message}
 use Rattle.st_message.specs.declared.message.Message.TheVariants as messages
@@ -32,13 +33,16 @@ use Rattle.st_protocol.specs.Keeping.{given, joined}
 use Rattle.st_protocol.specs.Questions.{values_by, executed_in, executed_values}
 use Rattle.st_protocol.specs.Known.{Sealed, seals_of}
 use Rattle.st_protocol.specs.Duty.{Event, Deliver, Tick, Reading, Faulty, Clean}
-use Rattle.st_protocol.specs.World.{Formats, passed, Deployment, Fault, BadReference, Stand, Running, Stopped, Full, Node, Pair, Answered, Customer, World, fresh_node, empty, is_nil, handed, Stepped, stepped, with_node, with_customer, with_waiting, ends, hands, bad_seal, with_known, with_seals, read_known, reads, seat_of, dests_of, sends_to, notes_seal, hands_one, hands_out, settled, is_full_by, is_stopped_by, stands_full, stands_stopped, comes_to, has_handed, pen_at, plan_at, by_stand, serves, with_reply, answered, awaits, on_checked_reply, on_reply, client_takes, delivers}
+use Rattle.st_protocol.specs.World.{Formats, Deployment, Fault, BadReference, Stand, Running, Stopped, Full, Node, Pair, Answered, Customer, World, fresh_node, empty, is_nil, handed, Stepped, stepped, with_node, with_customer, with_waiting, ends, hands, bad_seal, with_known, with_seals, read_known, reads, seat_of, dests_of, sends_to, notes_seal, hands_one, hands_out, settled, is_full_by, is_stopped_by, stands_full, stands_stopped, comes_to, has_handed, pen_at, plan_at, by_stand, serves, with_reply, answered, awaits, on_checked_reply, on_reply, client_takes, delivers}
 use Rattle.st_protocol.specs.Schedule.{is_pair, without, drops, Flowing, counts, flows_first, flows, submits, set_to_stop, timeout_event, restarted, forged_by, is_reference, goes, step, goes_on, steps}
 use Rattle.st_protocol.specs.World.{same_dest}
+use Rattle.st_ranges.specs.Ranges.{MessageInRange, ReadingInRange, EventInRange, OutputInRange}
+use Rattle.st_ranges.specs.Deployments.{KeepsRanges, DeploymentInRange, LineInRange}
+use Rattle.st_ranges.proofs.WorldLaws.{WorldInRange, delivery_in_range, timeout_in_range, plan_in_range, waiting_in_range, sent_in_range, first_in_range, update_in_range, step_in_range, empty_in_range}
+use Rattle.st_ranges.proofs.ChoiceLaws.{either, chosen, chosen_any, either_has, append_all, joined_all, flat_map_all, found_has}
 use Rattle.st_origins.specs.Passes.{UpdatePasses, StatementPasses, MessagePasses, ReadingPasses, EventPasses, ChangePasses, HeardPasses, OutputPasses, ListsPass, PlanPasses}
-use Rattle.st_origins.specs.Origins.{IsHanded, comes_from_client, ReadsWhatIsSent, is_honest_line}
+use Rattle.st_origins.specs.Origins.{IsHanded, comes_from_client, is_honest_line}
 use Rattle.st_origins.specs.Covers.{is_formed, without_place, HasNoFaulty, SealsCoverWire, SealsCover, IsCoveredLine, ReadsAsDefined, at_start, passed_as_defined}
-use Rattle.st_origins.proofs.ChoiceLaws.{either, chosen, chosen_any, either_has, append_all, joined_all, flat_map_all, found_has}
 use Rattle.st_origins.proofs.DutyLaws.{duty_passes}
 use Rattle.st_origins.proofs.HandedLaws.{noted, handed_stays, handed_now}
 use Rattle.st_origins.proofs.ForgeLaws.{MadePasses, unforged_passes}
@@ -161,16 +165,16 @@ module _ {Wire : Type 0} (d : Deployment Wire) (test : Value → Bool) where
       let at : WorldPasses d test world = w covers in
       record { nodes = at.nodes; sent = append_all WirePasses world.sent (wire ∷ []) at.sent (m covers, tt); made = at.made }
 
-  module _ (same : ReadsWhatIsSent d) where
+  module _ (ranges : DeploymentInRange d) where
     -- ---- a server's messages
 
-    -- a message that is sent
-    encode_passes : (m : Message) → MessagePasses test m → WirePasses (d.formats.encode m)
-    encode_passes m h = by (d.formats.read (d.formats.encode m)) refl
+    -- a message in range that is sent
+    encode_passes : (m : Message) → MessageInRange m → MessagePasses test m → WirePasses (d.formats.encode m)
+    encode_passes m inside h = by (d.formats.read (d.formats.encode m)) refl
       where
         by : (r : Reading) → d.formats.read (d.formats.encode m) ≡ r → ReadingPasses test r
         by (Faulty reason) e = tt
-        by (Clean n) e = subst (MessagePasses test) (sym (same.same m n e)) h
+        by (Clean n) e = subst (MessagePasses test) (sym (ranges.reads m n inside e)) h
 
     -- what is handed out covers what was before a server's own seal
     notes_covers : (site index : ℕ) (world : World Wire) (o : Output) → Covers (notes_seal d site index world o).made → Covers world.made
@@ -208,42 +212,43 @@ module _ {Wire : Type 0} (d : Deployment Wire) (test : Value → Bool) where
     one_covers site index world o covers = notes_covers site index world o covers
 
     -- one message of a server's is handed out
-    one_passing : (site index : ℕ) (world : World Wire) (o : Output) → (Covers world.made → OutputPasses test o) → Passing world → Passing (hands_one d site index world o)
+    one_passing : (site index : ℕ) (world : World Wire) (o : Output) → OutputInRange o → (Covers world.made → OutputPasses test o) → Passing world →
+        Passing (hands_one d site index world o)
     unfolding hands_one
-    one_passing site index world o h w =
+    one_passing site index world o inside h w =
         sends_passing (notes_seal d site index world o) (d.formats.encode o.message) (dests_of d o.to)
-        (λ covers. encode_passes o.message (h (notes_covers site index world o covers))) (notes_passing site index world o h w)
+        (λ covers. encode_passes o.message inside (h (notes_covers site index world o covers))) (notes_passing site index world o h w)
 
     -- messages of a server's are handed out
-    out_passing : (site index : ℕ) (world : World Wire) (outputs : List Output) → (Covers world.made → Each (OutputPasses test) outputs) → Passing world →
-        Passing (hands_out d site index world outputs)
-    out_passing site index world [] h w = w
-    out_passing site index world (o ∷ os) h w =
-        out_passing site index (hands_one d site index world o) os (λ covers. (h (one_covers site index world o covers)).1)
-        (one_passing site index world o (λ covers. (h covers).0) w)
+    out_passing : (site index : ℕ) (world : World Wire) (outputs : List Output) → Each OutputInRange outputs → (Covers world.made → Each (OutputPasses test) outputs) →
+        Passing world → Passing (hands_out d site index world outputs)
+    out_passing site index world [] inside h w = w
+    out_passing site index world (o ∷ os) inside h w =
+        out_passing site index (hands_one d site index world o) os inside.1 (λ covers. (h (one_covers site index world o covers)).1)
+        (one_passing site index world o inside.0 (λ covers. (h covers).0) w)
 
     -- ---- a server's event
 
     -- a plan is written and handed out
-    comes_passing : (world : World Wire) (site index : ℕ) (plan : Plan) → (Covers world.made → PlanPasses test plan) → Passing world → PassingAfter (comes_to d world site index plan)
+    comes_passing : (world : World Wire) (site index : ℕ) (plan : Plan) → Each OutputInRange plan.outputs → (Covers world.made → PlanPasses test plan) → Passing world →
+        PassingAfter (comes_to d world site index plan)
     unfolding comes_to with_node
-    comes_passing world site index plan p w =
+    comes_passing world site index plan inside p w =
         let node : Node = world.nodes site index in
         either PassingAfter (is_full_by d node plan) (stepped (with_node world site index (stands_full d node)) done.Full) _
         (node_passing world site index (stands_full d node) (λ covers. full_passes node ((w covers).nodes site index)) w)
         (either PassingAfter (is_stopped_by d node plan) (stepped (with_node world site index (stands_stopped d node plan.changes)) done.Stopped)
         (stepped (hands_out d site index (with_node world site index (settled d node plan)) plan.outputs) (done.Outcome plan.outcome))
         (node_passing world site index (stands_stopped d node plan.changes) (λ covers. stopped_passes node plan.changes ((w covers).nodes site index) (p covers).changes) w)
-        (out_passing site index (with_node world site index (settled d node plan)) plan.outputs (λ covers. (p covers).outputs)
+        (out_passing site index (with_node world site index (settled d node plan)) plan.outputs inside (λ covers. (p covers).outputs)
         (node_passing world site index (settled d node plan) (λ covers. settled_passes node plan ((w covers).nodes site index) (p covers)) w)))
 
     module _ (noop : IsTrue (test values.Noop)) where
       -- an event of a server
-      serves_passing : (world : World Wire) (site index : ℕ) (event : Event Wire) → (Covers world.made → EventPasses test (reads d) event) → Passing world →
-          PassingAfter (serves d world site index event)
+      serves_passing : (world : World Wire) (site index : ℕ) (event : Event Wire) → EventInRange (reads d) event → (Covers world.made → EventPasses test (reads d) event) →
+          WorldInRange d world → Passing world → PassingAfter (serves d world site index event)
       unfolding serves
-      serves_passing world site index event e w =
-          either PassingAfter (d.faulty site index) (stepped world done.Faulty) _ w (by (world.nodes site index).stand)
+      serves_passing world site index event inside e r w = by (d.faulty site index) refl
         where
           -- the server's plan
           plan_passes : Covers world.made → PlanPasses test (plan_at d world site index event)
@@ -252,10 +257,15 @@ module _ {Wire : Type 0} (d : Deployment Wire) (test : Value → Bool) where
               duty_passes test noop (reads d) (pen_at d site index) (seat_of d site index) (world.nodes site index).bodies (world.nodes site index).heard event
               (record { changes = node.bodies; messages = node.heard }) (e covers)
 
-          by : (stand : Stand) → PassingAfter (by_stand d world site index event stand)
-          by Running = comes_passing world site index (plan_at d world site index event) plan_passes w
-          by Stopped = w
-          by Full = w
+          by_state : d.faulty site index ≡ false → (stand : Stand) → PassingAfter (by_stand d world site index event stand)
+          by_state correct Running =
+              comes_passing world site index (plan_at d world site index event) (plan_in_range d ranges world site index event correct inside r).outputs plan_passes w
+          by_state correct Stopped = w
+          by_state correct Full = w
+
+          by : (b : Bool) → d.faulty site index ≡ b → PassingAfter (cond b (stepped world done.Faulty) (by_stand d world site index event (world.nodes site index).stand))
+          by true is = w
+          by false is = by_state is (world.nodes site index).stand
 
       -- ---- a delivery
 
@@ -294,71 +304,90 @@ module _ {Wire : Type 0} (d : Deployment Wire) (test : Value → Bool) where
       client_passing world client (Clean _) w = w
 
       -- a message is delivered
-      delivers_passing : (world : World Wire) (to : Dest) (wire : Wire) → (Covers world.made → ReadingPasses test (reads d wire)) → Passing world →
-          PassingAfter (delivers d world to wire)
+      delivers_passing : (world : World Wire) (to : Dest) (wire : Wire) → ReadingInRange (d.formats.read wire) → (Covers world.made → ReadingPasses test (reads d wire)) →
+          WorldInRange d world → Passing world → PassingAfter (delivers d world to wire)
       unfolding delivers
-      delivers_passing world (dests.Server server) wire m w = serves_passing world server.site server.index (Deliver wire) m w
-      delivers_passing world (dests.Client client) wire m w = client_passing world client.0 (read_known d wire) w
+      delivers_passing world (dests.Server server) wire inside m r w = serves_passing world server.site server.index (Deliver wire) (delivery_in_range d wire inside) m r w
+      delivers_passing world (dests.Client client) wire inside m r w = client_passing world client.0 (read_known d wire) w
 
       -- a message that was sent
       sent_passes : (sent : List Wire) (n : ℕ) (wire : Wire) → slice_get sent n ≡ Some wire → Each WirePasses sent → WirePasses wire
       sent_passes sent n wire e h = subst (λ (x : Option Wire). IfSome x WirePasses) e (found_has WirePasses sent n h)
 
       -- a message that was sent is delivered, with other pairs waiting
-      sent_passing : (world : World Wire) (pairs : List Pair) (n : ℕ) (to : Dest) (wire : Wire) → slice_get world.sent n ≡ Some wire → Passing world →
-          PassingAfter (delivers d (with_waiting world pairs) to wire)
+      sent_passing : (world : World Wire) (pairs : List Pair) (n : ℕ) (to : Dest) (wire : Wire) → slice_get world.sent n ≡ Some wire → WorldInRange d world →
+          Passing world → PassingAfter (delivers d (with_waiting world pairs) to wire)
       unfolding with_waiting
-      sent_passing world pairs n to wire e w =
-          delivers_passing (with_waiting world pairs) to wire
+      sent_passing world pairs n to wire e r w =
+          delivers_passing (with_waiting world pairs) to wire (sent_in_range d ranges world n wire e r)
           (λ covers. seals_pass (with_known d (d.formats.read wire)) (known_passes (d.formats.read wire) (sent_passes world.sent n wire e (w covers).sent)))
-          (waiting_passing world pairs w)
+          (waiting_in_range d world pairs r) (waiting_passing world pairs w)
 
       -- bytes from outside
-      raw_passing : (world : World Wire) (to : Dest) (wire : Wire) → SealsCoverWire d wire → Passing world →
+      raw_passing : (world : World Wire) (to : Dest) (wire : Wire) → ReadingInRange (d.formats.read wire) → SealsCoverWire d wire → WorldInRange d world → Passing world →
           PassingAfter (given (forged_by d world (d.formats.read wire)) (delivers d world to wire) (λ fault. stepped (ends world (Some fault)) (done.Dropped 0)))
-      raw_passing world to wire covered w = by (forged_by d world (d.formats.read wire)) refl
+      raw_passing world to wire inside covered r w = by (forged_by d world (d.formats.read wire)) refl
         where
           by : (fault : Option Fault) → forged_by d world (d.formats.read wire) ≡ fault →
               PassingAfter (given fault (delivers d world to wire) (λ found. stepped (ends world (Some found)) (done.Dropped 0)))
-          by None e = delivers_passing world to wire (λ covers. unforged_passes test d world (w covers).made (d.formats.read wire) e covered) w
+          by None e = delivers_passing world to wire inside (λ covers. unforged_passes test d world (w covers).made (d.formats.read wire) e covered) r w
           by (Some fault) e = ends_passing world (Some fault) w
 
       -- ---- the lines
 
       -- the oldest pair is delivered
-      first_passing : (x : Flowing Wire) (pairs : List Pair) → Passing x.world → Passing (flows_first d x pairs).world
+      first_passing : (x : Flowing Wire) (pairs : List Pair) → WorldInRange d x.world → Passing x.world → Passing (flows_first d x pairs).world
       unfolding flows_first
-      first_passing x [] w = w
-      first_passing x (p ∷ ps) w = by (slice_get x.world.sent p.message) refl
+      first_passing x [] r w = w
+      first_passing x (p ∷ ps) r w = by (slice_get x.world.sent p.message) refl
         where
           by : (wire : Option Wire) → slice_get x.world.sent p.message ≡ wire → Passing (given wire x (λ sent. counts d x (delivers d (with_waiting x.world ps) p.to sent))).world
           by None e = w
-          by (Some sent) e = sent_passing x.world ps p.message p.to sent e w
+          by (Some sent) e = sent_passing x.world ps p.message p.to sent e r w
 
       -- a flow
-      flows_passing : (k : ℕ) (x : Flowing Wire) → Passing x.world → Passing (flows d k x).world
+      flows_passing : (k : ℕ) (x : Flowing Wire) → WorldInRange d x.world → Passing x.world → Passing (flows d k x).world
       unfolding flows
-      flows_passing zero x w = w
-      flows_passing (suc k) x w = flows_passing k (flows_first d x x.world.waiting) (first_passing x x.world.waiting w)
+      flows_passing zero x r w = w
+      flows_passing (suc k) x r w =
+          flows_passing k (flows_first d x x.world.waiting) (first_in_range d ranges x x.world.waiting r) (first_passing x x.world.waiting r w)
 
       -- a client's update
-      submits_passing : (world : World Wire) (client : ℕ) (op : Bytes) → Passing world → PassingAfter (submits d world client op)
+      submits_passing : (world : World Wire) (client : ℕ) (op : Bytes) → client < 2 ^ 8 → length op ≤ most_text → Passing world → PassingAfter (submits d world client op)
       unfolding submits
-      submits_passing world client op w =
-          let used : ℕ = (world.customers client).time in
-          let update : Update = an_update client (used + 1) op in
-          let waits : Customer = record { time = used + 1; waits = true; replies = λ s i. None; result = None } in
-          let asks : World Wire = with_customer world client waits in
-          let next : used + 1 - 1 ≡ used = omega arith in
-          let asked : Covers (hands asks (client_at client) used (ClientUpdate update)).made → UpdatePasses test update = λ covers.
-          covers update
-          (subst (λ leaf. IsTrue (has_handed (hands asks (client_at client) used (ClientUpdate update)).made (client_at client) leaf (ClientUpdate update))) (sym next)
-          (handed_now asks (client_at client) used (ClientUpdate update))) in
-          either PassingAfter (nat_le d.capacity used) _ _ w
-          (sends_passing (hands asks (client_at client) used (ClientUpdate update))
-          (d.formats.encode (messages.Update update (d.formats.seal (client_at client) used (ClientUpdate update)))) (dests_of d scopes.All)
-          (λ covers. encode_passes (messages.Update update (d.formats.seal (client_at client) used (ClientUpdate update))) (asked covers))
-          (hands_passing asks (client_at client) used (ClientUpdate update) asked (customer_passing world client waits w)))
+      submits_passing world client op few short w = by (nat_le d.capacity used) refl
+        where
+          used : ℕ
+          used = (world.customers client).time
+
+          update : Update
+          update = an_update client (used + 1) op
+
+          waits : Customer
+          waits = record { time = used + 1; waits = true; replies = λ s i. None; result = None }
+
+          asks : World Wire
+          asks = hands (with_customer world client waits) (client_at client) used (ClientUpdate update)
+
+          message : Message
+          message = messages.Update update (d.formats.seal (client_at client) used (ClientUpdate update))
+
+          next : used + 1 - 1 ≡ used
+          next = omega arith
+
+          asked : Covers asks.made → UpdatePasses test update
+          asked covers =
+              covers update
+              (subst (λ leaf. IsTrue (has_handed asks.made (client_at client) leaf (ClientUpdate update))) (sym next)
+              (handed_now (with_customer world client waits) (client_at client) used (ClientUpdate update)))
+
+          by : (b : Bool) → nat_le d.capacity used ≡ b →
+              PassingAfter (cond b (stepped world (done.SealsSpent used)) (stepped (sends_to d asks (d.formats.encode message) (dests_of d scopes.All)) (done.Sent (length world.sent))))
+          by true e = w
+          by false e =
+              sends_passing asks (d.formats.encode message) (dests_of d scopes.All)
+              (λ covers. encode_passes message (update_in_range d ranges client used op few short e) (asked covers))
+              (hands_passing (with_customer world client waits) (client_at client) used (ClientUpdate update) asked (customer_passing world client waits w))
 
       -- a timeout
       timeout_passes : (global : Bool) → EventPasses test (reads d) (timeout_event global)
@@ -371,45 +400,47 @@ module _ {Wire : Type 0} (d : Deployment Wire) (test : Value → Bool) where
       drops_passing world lost w = waiting_passing world (without lost world.waiting) w
 
       -- a line
-      goes_passing : (world : World Wire) (line : Line) → is_reference d world line ≡ true → IsCoveredLine d line → Passing world → PassingAfter (goes d world line)
-      goes_passing world (lines.Client client op) there covered w = submits_passing world client.0 op w
-      goes_passing world (lines.Deliver m to) there covered w = by (slice_get world.sent m) refl
+      goes_passing : (world : World Wire) (line : Line) → is_reference d world line ≡ true → LineInRange d line → IsCoveredLine d line → WorldInRange d world → Passing world →
+          PassingAfter (goes d world line)
+      goes_passing world (lines.Client client op) there l covered r w = submits_passing world client.0 op l.1.0 l.0 w
+      goes_passing world (lines.Deliver m to) there l covered r w = by (slice_get world.sent m) refl
         where
           by : (x : Option Wire) → slice_get world.sent m ≡ x →
               PassingAfter (given x (stepped world (done.Dropped 0)) (λ wire. delivers d (with_waiting world (without (is_pair m to) world.waiting)) to wire))
           by None e = w
-          by (Some wire) e = sent_passing world (without (is_pair m to) world.waiting) m to wire e w
-      goes_passing world (lines.Drop m to) there covered w = drops_passing world (is_pair m to) w
-      goes_passing world (lines.Lose to) there covered w = drops_passing world (λ p. same_dest p.to to) w
-      goes_passing world (lines.Flow k) there covered w = flows_passing k (record { world = world; pairs = 0; did = 0; ignored = 0 }) w
-      goes_passing world (lines.Timeout server global) there covered w =
-          serves_passing world server.site server.index (timeout_event global) (λ covers. timeout_passes global) w
-      goes_passing world (lines.Tick server) there covered w = serves_passing world server.site server.index Tick (λ covers. tt) w
-      goes_passing world (lines.Stop server call) there covered w =
+          by (Some wire) e = sent_passing world (without (is_pair m to) world.waiting) m to wire e r w
+      goes_passing world (lines.Drop m to) there l covered r w = drops_passing world (is_pair m to) w
+      goes_passing world (lines.Lose to) there l covered r w = drops_passing world (λ p. same_dest p.to to) w
+      goes_passing world (lines.Flow k) there l covered r w = flows_passing k (record { world = world; pairs = 0; did = 0; ignored = 0 }) r w
+      goes_passing world (lines.Timeout server global) there l covered r w =
+          serves_passing world server.site server.index (timeout_event global) (timeout_in_range d global) (λ covers. timeout_passes global) r w
+      goes_passing world (lines.Tick server) there l covered r w = serves_passing world server.site server.index Tick tt (λ covers. tt) r w
+      goes_passing world (lines.Stop server call) there l covered r w =
           node_passing world server.site server.index (set_to_stop (world.nodes server.site server.index) call)
           (λ covers. stop_passes (world.nodes server.site server.index) call ((w covers).nodes server.site server.index)) w
-      goes_passing world (lines.Restart server kept) there covered w =
+      goes_passing world (lines.Restart server kept) there l covered r w =
           node_passing world server.site server.index (restarted d (world.nodes server.site server.index) kept)
           (λ covers. restarted_passes (world.nodes server.site server.index) kept ((w covers).nodes server.site server.index)) w
-      goes_passing world (lines.Seal server s) there covered w =
+      goes_passing world (lines.Seal server s) there l covered r w =
           absurd (let no : false ≡ true = sym covered ∙ (and_parts _ _ (and_parts _ _ there).0).0 in cc)
-      goes_passing world (lines.Raw to bytes) there covered w = raw_passing world to (d.formats.raw bytes) covered w
-      goes_passing world (lines.Show m) there covered w =
+      goes_passing world (lines.Raw to bytes) there l covered r w = raw_passing world to (d.formats.raw bytes) l.2 covered r w
+      goes_passing world (lines.Show m) there l covered r w =
           chosen_any PassingAfter (slice_get world.sent m) (stepped world (done.Dropped 0)) (λ wire. stepped world (done.Shown (d.formats.bytes wire))) w (λ wire. w)
 
       -- a line, whether or not what it names is there
-      step_passing : (world : World Wire) (line : Line) → IsCoveredLine d line → Passing world → PassingAfter (step d world line)
+      step_passing : (world : World Wire) (line : Line) → LineInRange d line → IsCoveredLine d line → WorldInRange d world → Passing world → PassingAfter (step d world line)
       unfolding step
-      step_passing world line covered w = by (is_reference d world line) refl
+      step_passing world line l covered r w = by (is_reference d world line) refl
         where
           by : (b : Bool) → is_reference d world line ≡ b → PassingAfter (cond b (goes d world line) (stepped (ends world (Some BadReference)) (done.Dropped 0)))
-          by true there = goes_passing world line there covered w
+          by true there = goes_passing world line there l covered r w
           by false there = ends_passing world (Some BadReference) w
 
       -- lines in order
-      steps_passing : (world : World Wire) (all : List Line) → Each (IsCoveredLine d) all → Passing world → Passing (steps d world all)
-      steps_passing world [] covered w = w
-      steps_passing world (line ∷ more) covered w = steps_passing (goes_on d world line) more covered.1 (step_passing world line covered.0 w)
+      steps_passing : (world : World Wire) (all : List Line) → Each (LineInRange d) all → Each (IsCoveredLine d) all → WorldInRange d world → Passing world → Passing (steps d world all)
+      steps_passing world [] l covered r w = w
+      steps_passing world (line ∷ more) l covered r w =
+          steps_passing (goes_on d world line) more l.1 covered.1 (step_in_range d ranges world line l.0 r) (step_passing world line l.0 covered.0 r w)
 
       -- before the first line
       empty_passing : Passing empty
@@ -417,8 +448,8 @@ module _ {Wire : Type 0} (d : Deployment Wire) (test : Value → Bool) where
       empty_passing covers = record { nodes = λ site index. record { bodies = tt; heard = tt; apart = tt }; sent = tt; made = tt }
 
       -- In the world of these lines.
-      pub world_passing : (all : List Line) → Each (IsCoveredLine d) all → Passing (steps d empty all)
-      world_passing all covered = steps_passing empty all covered empty_passing
+      pub world_passing : (all : List Line) → Each (LineInRange d) all → Each (IsCoveredLine d) all → Passing (steps d empty all)
+      world_passing all l covered = steps_passing empty all l covered (empty_in_range d ranges) empty_passing
 
 -- ---- executed values
 
@@ -456,14 +487,15 @@ module _ {Wire : Type 0} (d : Deployment Wire) where
   pub correct_lines_covered : (all : List Line) → HasNoFaulty d → SealsCover d → All (IsCoveredLine d) all
   correct_lines_covered all none cover = λ k line below. correct_covered none cover (get_or all k line)
 
-module _ {Wire : Type 0} (d : Deployment Wire) (all : List Line) (same : ReadsWhatIsSent d) (covered : All (IsCoveredLine d) all) where
+module _ {Wire : Type 0} (d : Deployment Wire) (all : List Line) (ranges : DeploymentInRange d) (inside : All (LineInRange d) all) (covered : All (IsCoveredLine d) all) where
   -- the test of what was handed out in the end
   abbrev handed_in_the_end : Value → Bool
   handed_in_the_end = comes_from_client (steps d empty all).made
 
   -- all values in the world
   world_passes : WorldPasses d handed_in_the_end (steps d empty all)
-  world_passes = world_passing d handed_in_the_end same refl all (recursion_from_All (IsCoveredLine d) all covered) (λ u h. h)
+  world_passes =
+      world_passing d handed_in_the_end ranges refl all (recursion_from_All (LineInRange d) all inside) (recursion_from_All (IsCoveredLine d) all covered) (λ u h. h)
 
   -- Each that a server recorded and heard.
   pub lists_handed : (site index : ℕ) → ListsPass handed_in_the_end ((steps d empty all).nodes site index).bodies ((steps d empty all).nodes site index).heard
@@ -485,14 +517,9 @@ module _ {Wire : Type 0} (d : Deployment Wire) (all : List Line) (same : ReadsWh
       (All-from_recursion (λ v. IsTrue (handed_in_the_end v)) log (executed_pass handed_in_the_end ((steps d empty all).nodes site index).bodies (world_passes.nodes site index).bodies)) found
 
 -- So of honest lines.
-pub executed_handed : {Wire : Type 0} (d : Deployment Wire) (all : List Line) → ReadsWhatIsSent d → All (λ line. is_honest_line line ≡ true) all → (site index : ℕ) (u : Update) →
-    Contains (executed_values ((steps d empty all).nodes site index).bodies) (values.Update u) → IsHanded (steps d empty all).made u
-executed_handed d all same honest site index u found = executed_covered d all same (honest_lines_covered d all honest) site index u found
-
--- Messages that are passed as they are.
-pub passed_reads_same : (d : Deployment Message) (seal : Who → ℕ → Statement → Bytes) (knows : Message → Bool) → d.formats ≡ record (passed seal) { knows = knows } → ReadsWhatIsSent d
-passed_reads_same d seal knows e =
-    subst (λ (formats : Formats Message). ReadsWhatIsSent (record d { formats = formats })) (sym e) (record { same = λ m n is. let clean : Clean m ≡ Clean n = is in cc })
+pub executed_handed : {Wire : Type 0} (d : Deployment Wire) (all : List Line) → DeploymentInRange d → All (LineInRange d) all → All (λ line. is_honest_line line ≡ true) all →
+    (site index : ℕ) (u : Update) → Contains (executed_values ((steps d empty all).nodes site index).bodies) (values.Update u) → IsHanded (steps d empty all).made u
+executed_handed d all ranges inside honest site index u found = executed_covered d all ranges inside (honest_lines_covered d all honest) site index u found
 
 -- ---- an example of formats that read as defined
 
@@ -512,9 +539,12 @@ formed_read m n = by (is_formed m) refl
 module _ (d : Deployment Message) (seal : Who → ℕ → Statement → Bytes) (holds : Who → Statement → Bytes → Bool)
     (e : d.formats ≡ passed_as_defined d.sites d.f d.clients seal holds) where
   -- Messages are read as they were sent.
-  pub example_sent : ReadsWhatIsSent d
-  example_sent =
-      subst (λ (formats : Formats Message). ReadsWhatIsSent (record d { formats = formats })) (sym e) (record { same = λ m n is. (formed_read m n is).1 })
+  pub example_sent : (m n : Message) → d.formats.read (d.formats.encode m) ≡ Clean n → n ≡ m
+  example_sent m n is = (formed_read m n (ap (λ (formats : Formats Message). formats.read (formats.encode m)) (sym e) ∙ is)).1
+
+  -- So the deployment is in range, where it keeps ranges.
+  pub example_in_range : KeepsRanges d → DeploymentInRange d
+  example_in_range keeps = record { keeps = keeps; reads = λ m n inside is. example_sent m n is }
 
   -- And as defined.
   pub example_defined : ReadsAsDefined d

@@ -1,16 +1,14 @@
--- That a client handed out its seal over an update, and of which deployments and event lines this is claimed.
-use Rattle.std.specs.Prelude.{◌≡◌, ◌-◌, Bool, true, false, IsTrue, List}
+-- That a client handed out its seal over an update, and of which event lines this is claimed.
+use Rattle.std.specs.Prelude.{◌-◌, Bool, true, false, IsTrue, List}
 use Rattle.st_words.specs.declared.value.Update.{Update}
 use Rattle.st_words.specs.declared.value.Value.{Value}
 use Rattle.st_words.specs.declared.value.Value.TheVariants as values
 use Rattle.st_words.specs.declared.statement.Statement.TheVariants.{ClientUpdate}
-use Rattle.st_message.specs.declared.message.Message.{Message}
 use Rattle.st_message.specs.declared.made.MadeSeal.{MadeSeal}
 use Rattle.st_schedule.specs.declared.line.Line.{Line}
 use Rattle.st_schedule.specs.declared.line.Line.TheVariants as lines
 use Rattle.st_protocol.specs.Words.{client_at}
-use Rattle.st_protocol.specs.Duty.{Clean}
-use Rattle.st_protocol.specs.World.{Deployment, has_handed}
+use Rattle.st_protocol.specs.World.{has_handed}
 
 -- among these seals is the client's own over its update, with the leaf of the update's time: time t has leaf t-1
 abbrev pub was_handed : List MadeSeal → Update → Bool
@@ -24,10 +22,6 @@ IsHanded made u = IsTrue (was_handed made u)
 abbrev pub comes_from_client : List MadeSeal → Value → Bool
 comes_from_client made values.Noop = true
 comes_from_client made (values.Update u) = was_handed made u
-
--- What is sent is read as the message that was sent, if as any.
-pub record ReadsWhatIsSent {Wire : Type 0} (d : Deployment Wire) : Type 0 where
-  pub same : (m n : Message) → d.formats.read (d.formats.encode m) ≡ Clean n → n ≡ m
 
 -- A line at which no faulty server seals and no bytes come from outside.
 abbrev pub is_honest_line : Line → Bool

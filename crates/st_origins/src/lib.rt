@@ -1,4 +1,10 @@
 //! Where the values that servers execute come from: each law is the contract of a function that has nothing to do.
+//!
+//! The laws of worlds ask that the deployment and the lines are in range. A deployment is, if its numbers are of their
+//! widths, its seals and its service keep their ranges, only servers that it has run code, and a message in range is
+//! read as it was sent, if as any. Formats have widths, so that of other messages nothing is asked: none is sent. A
+//! line is in range, if the grammar has it, and bytes from outside that it brings are read as a message in range, if
+//! as any.
 #![tactic(auto)]
 
 ghost use Rattle.std.specs.Prelude.{◌≡◌, ◌≤◌, ℕ, Bool, true, IsTrue, List};
@@ -15,12 +21,13 @@ ghost use Rattle.st_schedule.specs.declared.line.Line.{Line};
 ghost use Rattle.st_protocol.specs.Words.{Bytes};
 ghost use Rattle.st_protocol.specs.State.{Seat};
 ghost use Rattle.st_protocol.specs.Questions.{executed_values};
-ghost use Rattle.st_protocol.specs.Duty.{Event, Reading, Pen, duty};
+ghost use Rattle.st_protocol.specs.Duty.{Event, Reading, Clean, Pen, duty};
 ghost use Rattle.st_protocol.specs.Known.{knows, seals_of};
-ghost use Rattle.st_protocol.specs.World.{Deployment, passed, empty};
+ghost use Rattle.st_protocol.specs.World.{Deployment, empty};
 ghost use Rattle.st_protocol.specs.Schedule.{steps};
+ghost use Rattle.st_ranges.specs.Deployments.{KeepsRanges, DeploymentInRange, LineInRange};
 ghost use Rattle.st_origins.specs.Passes.{StatementPasses, ReadingPasses, EventPasses, ListsPass, PlanPasses};
-ghost use Rattle.st_origins.specs.Origins.{IsHanded, comes_from_client, ReadsWhatIsSent, is_honest_line};
+ghost use Rattle.st_origins.specs.Origins.{IsHanded, comes_from_client, is_honest_line};
 ghost use Rattle.st_origins.specs.Covers.{is_party, IsCovered, is_formed, HasNoFaulty, HasFewFaulty, SealsCoverMessage, SealsCover, IsCoveredLine, StandsByQuorums, IsAsDefined, ReadsAsDefined, passed_as_defined};
 
 /// A server's duty makes up no value: whatever test no-ops pass, all values that a plan records, keeps or sends
@@ -32,40 +39,40 @@ pub fn duties_make_up_no_value<Wire>()
 {}
 
 /// Every update in a server's log was handed out by its client: the client's own seal over it, with the leaf of
-/// the update's time. So it is for any number of sites, servers and faults, in every world of lines at which no
-/// faulty server seals, and no bytes come from outside (`honest`), or only such bytes of which each value is in a
-/// statement under a seal that is named as of a correct party (`covered`); and where no server is faulty and
-/// seals cover what is read, whatever lines come (`correct`).
+/// the update's time. So it is in a deployment in range, of whatever sites, servers and faults, and in every world of
+/// lines in range at which no faulty server seals, and no bytes come from outside (`honest`), or only such bytes of
+/// which each value is in a statement under a seal that is named as of a correct party (`covered`); and where no
+/// server is faulty and seals cover what is read, whatever lines in range come (`correct`).
 pub fn executed_updates_are_handed_out<Wire>()
     ensures honest { (d : Deployment Wire) (all : List Line) (site index : ℕ) (u : Update) →
-        ReadsWhatIsSent d → All (λ line. is_honest_line line ≡ true) all →
+        DeploymentInRange d → All (LineInRange d) all → All (λ line. is_honest_line line ≡ true) all →
         Contains (executed_values ((steps d empty all).nodes site index).bodies) (values.Update u) → IsHanded (steps d empty all).made u }
     ensures covered { (d : Deployment Wire) (all : List Line) (site index : ℕ) (u : Update) →
-        ReadsWhatIsSent d → All (IsCoveredLine d) all →
+        DeploymentInRange d → All (LineInRange d) all → All (IsCoveredLine d) all →
         Contains (executed_values ((steps d empty all).nodes site index).bodies) (values.Update u) → IsHanded (steps d empty all).made u }
     ensures correct { (d : Deployment Wire) (all : List Line) (site index : ℕ) (u : Update) →
-        ReadsWhatIsSent d → HasNoFaulty d → SealsCover d →
+        DeploymentInRange d → All (LineInRange d) all → HasNoFaulty d → SealsCover d →
         Contains (executed_values ((steps d empty all).nodes site index).bodies) (values.Update u) → IsHanded (steps d empty all).made u }
 {}
 
-/// In a world of honest lines all values that servers recorded or heard, and all that were sent, are no-ops and
-/// updates that their clients handed out. So it is in a world of covered lines, and of all values in statements
+/// In a world of honest lines in range all values that servers recorded or heard, and all that were sent, are no-ops
+/// and updates that their clients handed out. So it is in a world of covered lines, and of all values in statements
 /// that correct parties made.
 pub fn worlds_hold_what_was_handed_out<Wire>()
     ensures lists { (d : Deployment Wire) (all : List Line) (site index : ℕ) →
-        ReadsWhatIsSent d → All (λ line. is_honest_line line ≡ true) all →
+        DeploymentInRange d → All (LineInRange d) all → All (λ line. is_honest_line line ≡ true) all →
         ListsPass (comes_from_client (steps d empty all).made) ((steps d empty all).nodes site index).bodies ((steps d empty all).nodes site index).heard }
     ensures sent { (d : Deployment Wire) (all : List Line) →
-        ReadsWhatIsSent d → All (λ line. is_honest_line line ≡ true) all →
+        DeploymentInRange d → All (LineInRange d) all → All (λ line. is_honest_line line ≡ true) all →
         All (λ wire. ReadingPasses (comes_from_client (steps d empty all).made) (d.formats.read wire)) (steps d empty all).sent }
     ensures covered_lists { (d : Deployment Wire) (all : List Line) (site index : ℕ) →
-        ReadsWhatIsSent d → All (IsCoveredLine d) all →
+        DeploymentInRange d → All (LineInRange d) all → All (IsCoveredLine d) all →
         ListsPass (comes_from_client (steps d empty all).made) ((steps d empty all).nodes site index).bodies ((steps d empty all).nodes site index).heard }
     ensures covered_sent { (d : Deployment Wire) (all : List Line) →
-        ReadsWhatIsSent d → All (IsCoveredLine d) all →
+        DeploymentInRange d → All (LineInRange d) all → All (IsCoveredLine d) all →
         All (λ wire. ReadingPasses (comes_from_client (steps d empty all).made) (d.formats.read wire)) (steps d empty all).sent }
     ensures covered_made { (d : Deployment Wire) (all : List Line) →
-        ReadsWhatIsSent d → All (IsCoveredLine d) all →
+        DeploymentInRange d → All (LineInRange d) all → All (IsCoveredLine d) all →
         All (λ x. StatementPasses (comes_from_client (steps d empty all).made) x.statement) (steps d empty all).made }
 {}
 
@@ -97,18 +104,15 @@ pub fn quorums_cover_values<Wire>()
     ensures { (d : Deployment Wire) (m : Message) → HasFewFaulty d → IsAsDefined d m → d.formats.knows m ≡ true → StandsByQuorums m → SealsCoverMessage d m }
 {}
 
-/// Formats that read as defined, and what was sent as it was sent, can be had, for any seals.
+/// Formats that read as defined can be had, for any seals. What was sent is read as it was sent (`sent`), so that the
+/// deployment is in range, where its numbers, seals and service are and only its servers run code (`inside`).
 pub fn messages_passed_as_defined()
-    ensures sent { (d : Deployment Message) (seal : Who → ℕ → Statement → Bytes) (holds : Who → Statement → Bytes → Bool) →
-        d.formats ≡ passed_as_defined d.sites d.f d.clients seal holds → ReadsWhatIsSent d }
+    ensures sent { (d : Deployment Message) (seal : Who → ℕ → Statement → Bytes) (holds : Who → Statement → Bytes → Bool) (m n : Message) →
+        d.formats ≡ passed_as_defined d.sites d.f d.clients seal holds → d.formats.read (d.formats.encode m) ≡ Clean n → n ≡ m }
+    ensures inside { (d : Deployment Message) (seal : Who → ℕ → Statement → Bytes) (holds : Who → Statement → Bytes → Bool) →
+        d.formats ≡ passed_as_defined d.sites d.f d.clients seal holds → KeepsRanges d → DeploymentInRange d }
     ensures defined { (d : Deployment Message) (seal : Who → ℕ → Statement → Bytes) (holds : Who → Statement → Bytes → Bool) →
         d.formats ≡ passed_as_defined d.sites d.f d.clients seal holds → ReadsAsDefined d }
-{}
-
-/// Messages that are passed as they are, whatever is known of the deployment, are read as they were sent.
-pub fn messages_passed_read_as_sent()
-    ensures { (d : Deployment Message) (seal : Who → ℕ → Statement → Bytes) (knows : Message → Bool) →
-        d.formats ≡ record (passed seal) { knows = knows } → ReadsWhatIsSent d }
 {}
 
 #[cfg(test)]
@@ -127,7 +131,6 @@ mod tests {
         correct_deployments_cover::<Message>();
         quorums_cover_values::<Message>();
         messages_passed_as_defined();
-        messages_passed_read_as_sent();
         assert!(rt; true);
     }
 }

@@ -26,8 +26,8 @@ use Rattle.st_protocol.specs.Step.{to_rep}
 use Rattle.st_protocol.specs.Collecting.{report_statement, report_quorums}
 use Rattle.st_protocol.specs.Growth.{here_after, notes, takes, cuts, after, hears, after_all}
 use Rattle.st_protocol.specs.Duty.{reports_as, base_proof, reports, Pen, sealing_of, signed_by, message_of, sealed, Course, records, keeps, puts, emits, makes, replies, carries_change, carries_changes, keeps_all, emits_all, carries}
-use Rattle.st_origins.proofs.ChoiceLaws.{either, append_all}
 use Rattle.st_ranges.specs.Ranges.{ValueInRange, StatementInRange, ProofInRange, ChangeInRange, OutputInRange, IsReportOf, PenKeeps}
+use Rattle.st_ranges.proofs.ChoiceLaws.{either, append_all}
 use Rattle.st_ranges.proofs.RisingLaws.{each_weaker}
 use Rattle.st_ranges.proofs.StateLaws.{Top, ChangeAt, HeardAt, StateInRange, after_in_range, hears_in_range}
 use Rattle.st_ranges.proofs.ReportLaws.{OutInRange, local_report_in_range, global_report_in_range}

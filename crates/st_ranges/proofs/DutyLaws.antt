@@ -27,8 +27,8 @@ use Rattle.st_protocol.specs.Assigning.{fill}
 use Rattle.st_protocol.specs.Duty.{Event, Deliver, LocalTimeout, GlobalTimeout, Tick, Reading, Faulty, Clean, Pen, Course, begins, carries, of_share, of_certificate, of_local_words, of_view_proof, union_made, of_bundle, of_kind, is_built_message, of_message, of_reading, of_event, fills_up, course, plan_by, plan_of, duty}
 use Rattle.st_protocol.proofs.QuestionLaws.{one_body}
 use Rattle.st_protocol.proofs.CourseLaws.{Follows, course_follows}
-use Rattle.st_origins.proofs.ChoiceLaws.{either, append_all}
 use Rattle.st_ranges.specs.Ranges.{QuorumInRange, MessageInRange, ReadingInRange, EventInRange, ChangeInRange, HeardInRange, StandsIn, IsReportOf, view_of, local_view_of, ListsInRange, PlanInRange, PenKeeps, SeatInRange}
+use Rattle.st_ranges.proofs.ChoiceLaws.{either, append_all}
 use Rattle.st_ranges.proofs.RisingLaws.{each_weaker}
 use Rattle.st_ranges.proofs.StateLaws.{Top, top_of, ChangeAt, HeardAt, StateInRange, here_is, questions_in_range}
 use Rattle.st_ranges.proofs.CourseLaws.{CourseInRange, StepInRange, carries_in_range}

@@ -17,8 +17,8 @@ use Rattle.st_protocol.specs.State.{AtPrepare, Term, OfLocal, OfGlobal, Here, Sl
 use Rattle.st_protocol.specs.Step.{idle, making, rep, leader, to_site}
 use Rattle.st_protocol.specs.Forced.{Forced, item_at, item_view, item_local, local_held, site_held, highest_item, above_zero, local_item, forced_of, waits, forced_above}
 use Rattle.st_protocol.specs.Assigning.{is_assigned, next_pending, fill_value, Filling, fill_makes, fill_number, fills, fill}
-use Rattle.st_origins.proofs.ChoiceLaws.{chosen, either_has, first_has, higher_has, first_below_has}
 use Rattle.st_ranges.specs.Ranges.{ValueInRange, StatementInRange}
+use Rattle.st_ranges.proofs.ChoiceLaws.{chosen, either_has, first_has, higher_has, first_below_has}
 use Rattle.st_ranges.proofs.StateLaws.{Top, PendedInRange, ItemValueInRange, HeldInRange, StateInRange}
 use Rattle.st_ranges.proofs.CourseLaws.{StandsInRange}
 use Rattle.st_ranges.proofs.StepLaws.{open_slot, idle_stands, then_stands, making_stands, when_stands}

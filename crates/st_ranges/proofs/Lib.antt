@@ -1,4 +1,5 @@
 -- Lemmas.
+pub mod ChoiceLaws
 pub mod RisingLaws
 pub mod StateLaws
 pub mod MadeLaws

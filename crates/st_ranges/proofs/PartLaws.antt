@@ -31,8 +31,8 @@ use Rattle.st_protocol.specs.Forced.{Forced}
 use Rattle.st_protocol.specs.Assigning.{update_reasons, update_step, on_update, prepares, completes_prepare, keeps_prepare, assigns, keeps_assigned, assign_reasons, assign_step, on_assign, prepare_reasons, prepare_step, on_prepare, proposal_share_reasons, proposal_share_step, on_proposal_share}
 use Rattle.st_protocol.specs.Views.{on_local_timeout, on_global_timeout}
 use Rattle.st_protocol.specs.Ordering.{accept_share_reasons, accept_share_step, on_accept_share, proposal_reasons, proposal_step, on_proposal, names, site_word, words_proof, in_hand, executions, keeps_and_executes, accept_reasons, accept_step, on_accept, on_order_proof}
-use Rattle.st_origins.proofs.ChoiceLaws.{either, chosen, first_has, first_below_has}
 use Rattle.st_ranges.specs.Ranges.{IsReportOf, StatementInRange, QuorumInRange, SitesInRange, ProofInRange, MessageInRange}
+use Rattle.st_ranges.proofs.ChoiceLaws.{either, chosen, first_has, first_below_has}
 use Rattle.st_ranges.proofs.RisingLaws.{completed_in_range, word_part, sites_in_range}
 use Rattle.st_ranges.proofs.StateLaws.{top_of, SealingInRange, WordInRange, HandInRange, StateInRange, hand_takes_in_range, hand_cuts_in_range}
 use Rattle.st_ranges.proofs.MadeLaws.{IsSealed, IsOpen}

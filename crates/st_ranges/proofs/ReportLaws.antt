@@ -22,8 +22,8 @@ use Rattle.st_protocol.specs.State.{Backed, Answers}
 use Rattle.st_protocol.specs.Step.{all_below, to_rep}
 use Rattle.st_protocol.specs.Collecting.{item_of, in_window, report_statement, report_quorums}
 use Rattle.st_protocol.specs.Duty.{message_of, base_proof}
-use Rattle.st_origins.proofs.ChoiceLaws.{chosen, append_all, all_below_all}
 use Rattle.st_ranges.specs.Ranges.{StatementInRange, QuorumInRange, MessageInRange}
+use Rattle.st_ranges.proofs.ChoiceLaws.{chosen, append_all, all_below_all}
 use Rattle.st_ranges.proofs.RisingLaws.{each_weaker}
 use Rattle.st_ranges.proofs.StateLaws.{Top, PreparedAt, AcceptedAt, LoggedInRange, StateInRange}
 

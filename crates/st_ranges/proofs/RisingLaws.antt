@@ -18,8 +18,8 @@ use Rattle.st_protocol.specs.Keeping.{given}
 use Rattle.st_protocol.specs.State.{Here, Share, Word}
 use Rattle.st_protocol.specs.Step.{count_below, all_below, servers, quorum, majority, says, agreeing, with_share, completes, signed_at, quorum_of, completed}
 use Rattle.st_protocol.specs.Ordering.{names, site_word}
-use Rattle.st_origins.proofs.ChoiceLaws.{append_all}
 use Rattle.st_ranges.specs.Ranges.{QuorumInRange, SitesInRange}
+use Rattle.st_ranges.proofs.ChoiceLaws.{append_all}
 
 -- what holds of each holds in a weaker form
 pub each_weaker : {A : Type 0} (P Q : A → Type 0) → ((x : A) → P x → Q x) → (xs : List A) → Each P xs → Each Q xs

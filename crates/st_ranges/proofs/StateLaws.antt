@@ -25,8 +25,8 @@ use Rattle.st_protocol.specs.Keeping.{joined}
 use Rattle.st_protocol.specs.Questions.{sealing_in, prepared_in, accepted_in, held_of, held_in, if_other, if_own, share_in, local_vote_in, global_vote_in, asked_in, update_in, report_in, own_report_in, word_in, proof_in, completed_in, is_global_vc, is_proposal_at, is_accept_at, here_of, questions}
 use Rattle.st_protocol.specs.Growth.{here_after, log_after, words_after, hand_takes, hand_cuts, notes, takes, cuts, nothing, notes_all, takes_all, grown, after, hears}
 use Rattle.st_protocol.proofs.QuestionLaws.{questions_grow}
-use Rattle.st_origins.proofs.ChoiceLaws.{either_has, open_has, from_has, first_has, last_has, greatest_has, greatest_last_has, higher_has, joined_all}
 use Rattle.st_ranges.specs.Ranges.{ValueInRange, StatementInRange, QuorumInRange, SitesInRange, ProofInRange, MessageInRange, ChangeInRange, HeardInRange, StandsIn, IsReportOf, view_of, local_view_of, ListsInRange, SeatInRange}
+use Rattle.st_ranges.proofs.ChoiceLaws.{either_has, open_has, from_has, first_has, last_has, greatest_has, greatest_last_has, higher_has, joined_all}
 use Rattle.st_ranges.proofs.RisingLaws.{ShareInRange, each_both}
 
 -- ---- what the groups of a state hold

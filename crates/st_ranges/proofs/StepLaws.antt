@@ -21,8 +21,8 @@ use Rattle.st_wire.specs.Kind.{share_kinds, certificate_kinds}
 use Rattle.st_wire.specs.Ranges.{KeepsCore}
 use Rattle.st_protocol.specs.State.{Here, Share, Answers}
 use Rattle.st_protocol.specs.Step.{Answer, Refused, Steps, idle, then, making, recording, keeping, completing, putting, when, decides, one_if, out_of_window, completes, completed, certifies}
-use Rattle.st_origins.proofs.ChoiceLaws.{append_all}
 use Rattle.st_ranges.specs.Ranges.{QuorumInRange, MessageInRange, IsReportOf}
+use Rattle.st_ranges.proofs.ChoiceLaws.{append_all}
 use Rattle.st_ranges.proofs.RisingLaws.{each_weaker, ShareInRange, completed_in_range}
 use Rattle.st_ranges.proofs.StateLaws.{Top, ChangeAt, HeardAt}
 use Rattle.st_ranges.proofs.MadeLaws.{IsSealed, IsOpen, IsStill, MadeIn, made_first, made_last}

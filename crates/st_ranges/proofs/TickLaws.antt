@@ -23,8 +23,8 @@ use Rattle.st_protocol.specs.State.{Place, AtPrepare, AtProposal, AtAccept, Term
 use Rattle.st_protocol.specs.Step.{to_list, servers, rep, to_rep, to_site}
 use Rattle.st_protocol.specs.Reconciling.{ask}
 use Rattle.st_protocol.specs.Duty.{share_of, report_again, pending_seal, prepare_again, number_again, certificate_to, certificate_again, certificates_again, ask_to, tick_out}
-use Rattle.st_origins.proofs.ChoiceLaws.{either, chosen, append_all, to_list_all, all_below_all}
 use Rattle.st_ranges.specs.Ranges.{StatementInRange}
+use Rattle.st_ranges.proofs.ChoiceLaws.{either, chosen, append_all, to_list_all, all_below_all}
 use Rattle.st_ranges.proofs.StateLaws.{Top, SealingInRange, CompletedInRange, SentReportInRange, PendedInRange, StateInRange}
 use Rattle.st_ranges.proofs.MadeLaws.{IsSealed}
 use Rattle.st_ranges.proofs.ReportLaws.{OutInRange}

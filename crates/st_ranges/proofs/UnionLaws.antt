@@ -22,8 +22,8 @@ use Rattle.st_protocol.specs.State.{Term, OfLocal, OfGlobal, at_report, Here}
 use Rattle.st_protocol.specs.Step.{count_below, all_below, to_list, servers, quorum}
 use Rattle.st_protocol.specs.Forced.{item_at, item_view, item_local, higher_item}
 use Rattle.st_protocol.specs.Collecting.{reports_kept, view_in, base_in, items_in, most, best_item, union_items, union_as, union}
-use Rattle.st_origins.proofs.ChoiceLaws.{append_all, higher_has}
 use Rattle.st_ranges.specs.Ranges.{ValueInRange, StatementInRange, MessageInRange}
+use Rattle.st_ranges.proofs.ChoiceLaws.{append_all, higher_has}
 use Rattle.st_ranges.proofs.RisingLaws.{each_weaker, as_many}
 use Rattle.st_ranges.proofs.StateLaws.{Top, ReportAt}
 use Rattle.st_ranges.proofs.ReportLaws.{AtMostItem, WindowItems, window_below}

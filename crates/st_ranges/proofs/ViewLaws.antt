@@ -34,8 +34,8 @@ use Rattle.st_protocol.specs.Views.{votes_for, has_voted, with_asked, asks_for, 
 use Rattle.st_protocol.specs.Collecting.{not_present, reports_kept, with_report, add_report, view_in, base_in, most, union_items, union_as, union, check_bundle, union_to, on_union_share, union_site, on_union}
 use Rattle.st_protocol.specs.Reconciling.{owed_proofs, owed_view, owed_local, answer}
 use Rattle.st_protocol.specs.Duty.{reports_at}
-use Rattle.st_origins.proofs.ChoiceLaws.{chosen, either_has, append_all, all_below_all}
 use Rattle.st_ranges.specs.Ranges.{StatementInRange, QuorumInRange, SitesInRange, MessageInRange}
+use Rattle.st_ranges.proofs.ChoiceLaws.{chosen, either_has, append_all, all_below_all}
 use Rattle.st_ranges.proofs.RisingLaws.{each_weaker, each_both, ShareInRange, AtMostOne, Rises, rises_below, each_kept, as_many, completed_in_range}
 use Rattle.st_ranges.proofs.StateLaws.{top_of, VoteInRange, AskedInRange, LoggedInRange, ReportAt, StateInRange}
 use Rattle.st_ranges.proofs.MadeLaws.{IsOpen, same}

@@ -1,6 +1,6 @@
 -- In a world of lines in range all that servers record, hear and send is in range.
 use Rattle.std.proofs.Common.{◌≡◌, ◌∙◌, ap, refl, sym, subst, ℕ, ◌+◌, ◌-◌, ◌^◌, ◌<◌, ◌≤◌, Bool, true, false, cond, zero, suc, nat_eq, nat_lt, nat_le, List, [], ◌∷◌, ◌++◌, arith}
-use Rattle.std.specs.Prelude.{◌&&◌, Option, Some, None, is_some, slice_get, length}
+use Rattle.std.specs.Prelude.{◌&&◌, IsTrue, not, Option, Some, None, is_some, slice_get, length}
 use Rattle.std.specs.Option.{IfSome}
 use Rattle.std.specs.List.{AllByRecursion as Each, All}
 use Rattle.std.proofs.lemmas.Bool.{and_parts, ltb-true, leb-false, eqb-true}
@@ -37,9 +37,9 @@ use Rattle.st_protocol.specs.State.{Seat}
 use Rattle.st_protocol.specs.Duty.{Event, Deliver, Tick, Reading, Faulty, Clean}
 use Rattle.st_protocol.specs.World.{Formats, passed, Deployment, Fault, BadReference, Stand, Running, Stopped, Full, Node, Pair, Answered, Customer, World, empty, fresh_node, same_dest, is_nil, handed, Stepped, stepped, with_node, with_customer, with_waiting, uses_leaf, ends, hands, has_made, servers_of, bad_seal, with_known, with_seals, read_known, reads, seat_of, dests_of, sends_to, notes_seal, hands_one, hands_out, settled, is_full_by, is_stopped_by, stands_full, stands_stopped, comes_to, pen_at, plan_at, by_stand, serves, with_reply, answered, awaits, on_checked_reply, on_reply, client_takes, delivers}
 use Rattle.st_protocol.specs.Schedule.{is_pair, without, drops, Flowing, counts, flows_first, flows, sealed_message, client_seal_of, then_assigns, seals, submits, set_to_stop, timeout_event, restarted, forged_by, is_reference, goes, step, goes_on, steps}
-use Rattle.st_origins.proofs.ChoiceLaws.{either, chosen, chosen_any, either_has, append_all, found_has}
 use Rattle.st_ranges.specs.Ranges.{ValueInRange, StatementInRange, MessageInRange, ReadingInRange, EventInRange, OutputInRange, ListsInRange, PlanInRange, SeatInRange}
-use Rattle.st_ranges.specs.Deployments.{DeploymentInRange, LineInRange, IsEncoded}
+use Rattle.st_ranges.specs.Deployments.{KeepsRanges, DeploymentInRange, LineInRange, IsEncoded, one_server}
+use Rattle.st_ranges.proofs.ChoiceLaws.{either, chosen, chosen_any, either_has, append_all, found_has}
 use Rattle.st_ranges.proofs.ReportLaws.{SignedInRange}
 use Rattle.st_ranges.proofs.DutyLaws.{duty_in_range}
 
@@ -160,8 +160,8 @@ module _ {Wire : Type 0} (d : Deployment Wire) where
   unfolding with_customer
   customer_in_range world client customer w = record { nodes = w.nodes; sent = w.sent }
 
-  -- other pairs wait
-  waiting_in_range : (world : World Wire) (pairs : List Pair) → WorldInRange world → WorldInRange (with_waiting world pairs)
+  -- Other pairs wait.
+  pub waiting_in_range : (world : World Wire) (pairs : List Pair) → WorldInRange world → WorldInRange (with_waiting world pairs)
   unfolding with_waiting
   waiting_in_range world pairs w = record { nodes = w.nodes; sent = w.sent }
 
@@ -234,6 +234,15 @@ module _ {Wire : Type 0} (d : Deployment Wire) where
   seals_in_range (Faulty reason) h = tt
   seals_in_range (Clean m) h = chosen_any ReadingInRange (bad_seal d m) (Clean m) (λ place. Faulty (BadSeal place)) h (λ place. tt)
 
+  -- What is delivered to a server.
+  pub delivery_in_range : (wire : Wire) → ReadingInRange (d.formats.read wire) → EventInRange (reads d) (Deliver wire)
+  delivery_in_range wire r = seals_in_range (with_known d (d.formats.read wire)) (known_in_range (d.formats.read wire) r)
+
+  -- A timeout.
+  pub timeout_in_range : (global : Bool) → EventInRange (reads d) (timeout_event global)
+  timeout_in_range false = tt
+  timeout_in_range true = tt
+
   -- ---- a client's reply
 
   -- whose seals check
@@ -268,12 +277,19 @@ module _ {Wire : Type 0} (d : Deployment Wire) where
     -- a server that runs code
     seat_in_range : (site index : ℕ) → d.faulty site index ≡ false → SeatInRange (seat_of d site index)
     seat_in_range site index correct =
-        let parts = and_parts (nat_lt site d.sites) (nat_lt index (servers_of d)) (h.runs site index correct) in
+        let parts = and_parts (nat_lt site d.sites) (nat_lt index (servers_of d)) (h.keeps.runs site index correct) in
         let at_site : site < d.sites = ltb-true site d.sites parts.0 in
         let at_index : index < servers_of d = ltb-true index (servers_of d) parts.1 in
-        let sites : d.sites < 2 ^ 8 = h.sites in
-        let servers : servers_of d < 2 ^ 8 = h.servers in
-        record { site = omega (arith, at_site, sites); index = omega (arith, at_index, servers); sites = sites; servers = servers; capacity = h.capacity; serve = h.serve }
+        let sites : d.sites < 2 ^ 8 = h.keeps.sites in
+        let servers : servers_of d < 2 ^ 8 = h.keeps.servers in
+        record { site = omega (arith, at_site, sites); index = omega (arith, at_index, servers); sites = sites; servers = servers; capacity = h.keeps.capacity; serve = h.keeps.serve }
+
+    -- The plan of a server's event.
+    pub plan_in_range : (world : World Wire) (site index : ℕ) (event : Event Wire) → d.faulty site index ≡ false → EventInRange (reads d) event → WorldInRange world →
+        PlanInRange (seat_of d site index) (world.nodes site index).bodies (world.nodes site index).heard (plan_at d world site index event)
+    plan_in_range world site index event correct e w =
+        duty_in_range (pen_at d site index) (h.keeps.seals (server_at site index)) (reads d) (seat_of d site index) (world.nodes site index).bodies (world.nodes site index).heard event
+        (seat_in_range site index correct) (w.nodes site index).lists e
 
     -- an event of a server
     serves_in_range : (world : World Wire) (site index : ℕ) (event : Event Wire) → EventInRange (reads d) event → WorldInRange world → WorldAfter (serves d world site index event)
@@ -281,22 +297,13 @@ module _ {Wire : Type 0} (d : Deployment Wire) where
     serves_in_range world site index event e w = by (d.faulty site index) refl
       where
         by_state : d.faulty site index ≡ false → (stand : Stand) → WorldAfter (by_stand d world site index event stand)
-        by_state correct Running =
-            comes_in_range world site index (plan_at d world site index event)
-            (duty_in_range (pen_at d site index) (h.seals (server_at site index)) (reads d) (seat_of d site index) (world.nodes site index).bodies (world.nodes site index).heard event
-            (seat_in_range site index correct) (w.nodes site index).lists e)
-            w
+        by_state correct Running = comes_in_range world site index (plan_at d world site index event) (plan_in_range world site index event correct e w) w
         by_state correct Stopped = w
         by_state correct Full = w
 
         by : (b : Bool) → d.faulty site index ≡ b → WorldAfter (cond b (stepped world done.Faulty) (by_stand d world site index event (world.nodes site index).stand))
         by true is = w
         by false is = by_state is (world.nodes site index).stand
-
-    -- a timeout
-    timeout_in_range : (global : Bool) → EventInRange (reads d) (timeout_event global)
-    timeout_in_range false = tt
-    timeout_in_range true = tt
 
     -- ---- a delivery
 
@@ -306,39 +313,51 @@ module _ {Wire : Type 0} (d : Deployment Wire) where
       where
         by : (r : Reading) → d.formats.read wire ≡ r → ReadingInRange r
         by (Faulty reason) is = tt
-        by (Clean n) is = h.reads e.message n e.inside (ap d.formats.read (sym e.spells) ∙ is)
+        by (Clean n) is = subst MessageInRange (sym (h.reads e.message n e.inside (ap d.formats.read (sym e.spells) ∙ is))) e.inside
+
+    -- What a message that was sent is read as.
+    pub sent_in_range : (world : World Wire) (n : ℕ) (wire : Wire) → slice_get world.sent n ≡ Some wire → WorldInRange world → ReadingInRange (d.formats.read wire)
+    sent_in_range world n wire e w = read_in_range wire (subst (λ (x : Option Wire). IfSome x (IsEncoded d)) e (found_has (IsEncoded d) world.sent n w.sent))
 
     -- a message is delivered
     delivers_in_range : (world : World Wire) (to : Dest) (wire : Wire) → ReadingInRange (d.formats.read wire) → WorldInRange world → WorldAfter (delivers d world to wire)
     unfolding delivers
     delivers_in_range world (dests.Server server) wire r w =
-        serves_in_range world server.site server.index (Deliver wire) (seals_in_range (with_known d (d.formats.read wire)) (known_in_range (d.formats.read wire) r)) w
+        serves_in_range world server.site server.index (Deliver wire) (delivery_in_range wire r) w
     delivers_in_range world (dests.Client client) wire r w = client_in_range world client.0 (read_known d wire) w
 
     -- a message that was sent is delivered, with other pairs waiting
-    sent_in_range : (world : World Wire) (pairs : List Pair) (n : ℕ) (to : Dest) (wire : Wire) → slice_get world.sent n ≡ Some wire → WorldInRange world →
+    sent_delivers_in_range : (world : World Wire) (pairs : List Pair) (n : ℕ) (to : Dest) (wire : Wire) → slice_get world.sent n ≡ Some wire → WorldInRange world →
         WorldAfter (delivers d (with_waiting world pairs) to wire)
-    sent_in_range world pairs n to wire e w =
-        let known : IsEncoded d wire = subst (λ (x : Option Wire). IfSome x (IsEncoded d)) e (found_has (IsEncoded d) world.sent n w.sent) in
-        delivers_in_range (with_waiting world pairs) to wire (read_in_range wire known) (waiting_in_range world pairs w)
+    sent_delivers_in_range world pairs n to wire e w = delivers_in_range (with_waiting world pairs) to wire (sent_in_range world n wire e w) (waiting_in_range world pairs w)
 
     -- ---- a flow, and a client's update
 
-    -- the oldest pair is delivered
-    first_in_range : (x : Flowing Wire) (pairs : List Pair) → WorldInRange x.world → WorldInRange (flows_first d x pairs).world
+    -- The oldest pair is delivered.
+    pub first_in_range : (x : Flowing Wire) (pairs : List Pair) → WorldInRange x.world → WorldInRange (flows_first d x pairs).world
     unfolding flows_first
     first_in_range x [] w = w
     first_in_range x (p ∷ ps) w = by (slice_get x.world.sent p.message) refl
       where
         by : (wire : Option Wire) → slice_get x.world.sent p.message ≡ wire → WorldInRange (given wire x (λ sent. counts d x (delivers d (with_waiting x.world ps) p.to sent))).world
         by None e = w
-        by (Some sent) e = sent_in_range x.world ps p.message p.to sent e w
+        by (Some sent) e = sent_delivers_in_range x.world ps p.message p.to sent e w
 
     -- a flow
     flows_in_range : (k : ℕ) (x : Flowing Wire) → WorldInRange x.world → WorldInRange (flows d k x).world
     unfolding flows
     flows_in_range zero x w = w
     flows_in_range (suc k) x w = flows_in_range k (flows_first d x x.world.waiting) (first_in_range x x.world.waiting w)
+
+    -- A client's update, as it is sent.
+    pub update_in_range : (client used : ℕ) (op : Bytes) → client < 2 ^ 8 → length op ≤ most_text → nat_le d.capacity used ≡ false →
+        MessageInRange (messages.Update (an_update client (used + 1) op) (d.formats.seal (client_at client) used (ClientUpdate (an_update client (used + 1) op))))
+    update_in_range client used op few short e =
+        let left : used < d.capacity = leb-false d.capacity used e in
+        let most : d.capacity < 2 ^ 32 = h.keeps.capacity in
+        let keeps : KeepsUpdate (an_update client (used + 1) op) = (omega arith, short) in
+        let fits : FitsUpdate (an_update client (used + 1) op) = (few, omega (arith, left, most)) in
+        ((keeps, h.keeps.seals (client_at client) used (ClientUpdate (an_update client (used + 1) op)) (keeps, fits)), fits)
 
     -- a client's update
     submits_in_range : (world : World Wire) (client : ℕ) (op : Bytes) → client < 2 ^ 8 → length op ≤ most_text → WorldInRange world → WorldAfter (submits d world client op)
@@ -364,11 +383,7 @@ module _ {Wire : Type 0} (d : Deployment Wire) where
             WorldAfter (cond b (stepped world (done.SealsSpent used)) (stepped (sends_to d asks (d.formats.encode message) (dests_of d scopes.All)) (done.Sent (length world.sent))))
         by true e = w
         by false e =
-            let left : used < d.capacity = leb-false d.capacity used e in
-            let most : d.capacity < 2 ^ 32 = h.capacity in
-            let keeps : KeepsUpdate update = (omega arith, short) in
-            let fits : FitsUpdate update = (few, omega (arith, left, most)) in
-            sends_in_range asks message (dests_of d scopes.All) ((keeps, h.seals (client_at client) used (ClientUpdate update) (keeps, fits)), fits)
+            sends_in_range asks message (dests_of d scopes.All) (update_in_range client used op few short e)
             (hands_in_range (with_customer world client waits) (client_at client) used (ClientUpdate update) (customer_in_range world client waits w))
 
     -- ---- a faulty server's seal
@@ -378,7 +393,7 @@ module _ {Wire : Type 0} (d : Deployment Wire) where
     client_seal_short world values.Noop v = omega arith
     client_seal_short world (values.Update u) v =
         either (λ (seal : Bytes). length seal ≤ most_seal) (has_made world.made (parties.Client u.client) (ClientUpdate u)) _ []
-        (h.seals (parties.Client u.client) (u.time - 1) (ClientUpdate u) v).1 (omega arith)
+        (h.keeps.seals (parties.Client u.client) (u.time - 1) (ClientUpdate u) v).1 (omega arith)
 
     -- a Prepare goes out as an assignment too
     assigns_in_range : (world : World Wire) (s : Statement) (signed : Signed) → StatementInRange s → SignedInRange signed → WorldInRange world → WorldInRange (then_assigns d world s signed)
@@ -393,7 +408,7 @@ module _ {Wire : Type 0} (d : Deployment Wire) where
     unfolding seals
     faulty_in_range world site index s at k f w =
         let signed : Signed = record { index = index; seal = d.formats.seal (server_at site index) (world.leaves site index) s } in
-        let g : SignedInRange signed = ((omega arith, h.seals (server_at site index) (world.leaves site index) s (k.0, f)), at) in
+        let g : SignedInRange signed = ((omega arith, h.keeps.seals (server_at site index) (world.leaves site index) s (k.0, f)), at) in
         assigns_in_range (sends_to d (uses_leaf world site index) (d.formats.encode (sealed_message s signed)) []) s signed (k.0, f) g
         (sends_in_range (uses_leaf world site index) (sealed_message s signed) [] (sealed_message_in_range s signed k f g) (uses_in_range world site index w))
 
@@ -407,7 +422,7 @@ module _ {Wire : Type 0} (d : Deployment Wire) where
         by : (x : Option Wire) → slice_get world.sent m ≡ x →
             WorldAfter (given x (stepped world (done.Dropped 0)) (λ wire. delivers d (with_waiting world (without (is_pair m to) world.waiting)) to wire))
         by None e = w
-        by (Some wire) e = sent_in_range world (without (is_pair m to) world.waiting) m to wire e w
+        by (Some wire) e = sent_delivers_in_range world (without (is_pair m to) world.waiting) m to wire e w
     goes_in_range world (lines.Drop m to) l w = drops_in_range world (is_pair m to) w
     goes_in_range world (lines.Lose to) l w = drops_in_range world (λ p. same_dest p.to to) w
     goes_in_range world (lines.Flow k) l w = flows_in_range k (record { world = world; pairs = 0; did = 0; ignored = 0 }) w
@@ -426,8 +441,8 @@ module _ {Wire : Type 0} (d : Deployment Wire) where
     goes_in_range world (lines.Show m) l w =
         chosen_any WorldAfter (slice_get world.sent m) (stepped world (done.Dropped 0)) (λ wire. stepped world (done.Shown (d.formats.bytes wire))) w (λ wire. w)
 
-    -- a line, whether or not what it names is there
-    step_in_range : (world : World Wire) (line : Line) → LineInRange d line → WorldInRange world → WorldAfter (step d world line)
+    -- A line, whether or not what it names is there.
+    pub step_in_range : (world : World Wire) (line : Line) → LineInRange d line → WorldInRange world → WorldAfter (step d world line)
     unfolding step
     step_in_range world line l w =
         either WorldAfter (is_reference d world line) (goes d world line) (stepped (ends world (Some BadReference)) (done.Dropped 0))
@@ -438,8 +453,8 @@ module _ {Wire : Type 0} (d : Deployment Wire) where
     steps_in_range world [] l w = w
     steps_in_range world (line ∷ more) l w = steps_in_range (goes_on d world line) more l.1 (step_in_range world line l.0 w)
 
-    -- before the first line
-    empty_in_range : WorldInRange empty
+    -- Before the first line.
+    pub empty_in_range : WorldInRange empty
     unfolding empty fresh_node joined gathered
     empty_in_range = record { nodes = λ site index. record { lists = record { changes = tt; messages = tt; stands = tt; home = tt; few = omega arith }; apart = tt }; sent = tt }
 
@@ -457,12 +472,30 @@ module _ {Wire : Type 0} (d : Deployment Wire) where
     lists_in_range all site index l = ((world_in_range all l).nodes site index).lists
 
 -- Messages that are passed as they are.
-pub passed_reads_in_range : (d : Deployment Message) (seal : Who → ℕ → Statement → Bytes) (knows : Message → Bool) (m n : Message) →
-    d.formats ≡ record (passed seal) { knows = knows } → MessageInRange m → d.formats.read (d.formats.encode m) ≡ Clean n → MessageInRange n
-passed_reads_in_range d seal knows m n e h is = subst MessageInRange (same is) h
-  where
-    reading : Clean m ≡ d.formats.read (d.formats.encode m)
-    reading = ap (λ (formats : Formats Message). formats.read (formats.encode m)) (sym e)
+pub passed_reads_same : (d : Deployment Message) (seal : Who → ℕ → Statement → Bytes) (knows : Message → Bool) (m n : Message) →
+    d.formats ≡ record (passed seal) { knows = knows } → d.formats.read (d.formats.encode m) ≡ Clean n → n ≡ m
+passed_reads_same d seal knows m n e is =
+    let clean : Clean m ≡ Clean n = ap (λ (formats : Formats Message). formats.read (formats.encode m)) (sym e) ∙ is in cc
 
-    same : d.formats.read (d.formats.encode m) ≡ Clean n → m ≡ n
-    same is = let clean : Clean m ≡ Clean n = reading ∙ is in cc
+-- A deployment of such messages.
+pub passed_in_range : (d : Deployment Message) (seal : Who → ℕ → Statement → Bytes) (knows : Message → Bool) →
+    d.formats ≡ record (passed seal) { knows = knows } → KeepsRanges d → DeploymentInRange d
+passed_in_range d seal knows e keeps = record { keeps = keeps; reads = λ m n inside is. passed_reads_same d seal knows m n e is }
+
+-- what isn't denied
+undenied : (b : Bool) → not b ≡ false → IsTrue b
+undenied true e = refl
+undenied false e = absurd (let no : true ≡ false = e in cc)
+
+-- One server's.
+pub one_server_in_range : DeploymentInRange one_server
+one_server_in_range =
+    passed_in_range one_server (λ who leaf s. 0 ∷ []) (λ m. true) refl
+    (record {
+      sites = omega arith;
+      servers = omega arith;
+      capacity = omega arith;
+      serve = λ ran op short. short;
+      seals = λ who leaf s inside. (omega arith, omega arith);
+      runs = λ site index. undenied (nat_lt site 1 && nat_lt index 1);
+    })

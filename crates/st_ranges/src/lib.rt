@@ -16,7 +16,7 @@ ghost use Rattle.st_protocol.specs.Duty.{Event, Reading, Clean, Pen, of_kind, pl
 ghost use Rattle.st_protocol.specs.World.{Deployment, passed, empty, seat_of};
 ghost use Rattle.st_protocol.specs.Schedule.{steps};
 ghost use Rattle.st_ranges.specs.Ranges.{MessageInRange, PenKeeps, SeatInRange, EventInRange, ListsInRange, PlanInRange};
-ghost use Rattle.st_ranges.specs.Deployments.{DeploymentInRange, LineInRange, IsEncoded};
+ghost use Rattle.st_ranges.specs.Deployments.{KeepsRanges, DeploymentInRange, LineInRange, IsEncoded, one_server};
 
 /// A server's duty keeps ranges: where all that the server recorded and heard is in range, and what is delivered is read
 /// as a message in range or as none, then the lists with what the plan adds to them are in range, and so is each message
@@ -37,16 +37,24 @@ pub fn parts_keep_ranges()
 
 /// In every world of lines in range, of a deployment in range, every message that was sent is the encoding of a message
 /// in range, and all that each server recorded and heard is in range. So it is at every kind of line of the grammar.
+/// A deployment is in range if its numbers are of their widths, its seals and its service keep their ranges, only
+/// servers that it has run code, and a message in range is read as it was sent, if as any. A line is in range if the
+/// grammar has it, and bytes from outside that it brings are read as a message in range, if as any.
 pub fn worlds_send_in_range<Wire>()
     ensures sent { (d : Deployment Wire) (all : List Line) → DeploymentInRange d → All (LineInRange d) all → All (IsEncoded d) (steps d empty all).sent }
     ensures lists { (d : Deployment Wire) (all : List Line) (site index : ℕ) → DeploymentInRange d → All (LineInRange d) all →
         ListsInRange (seat_of d site index) ((steps d empty all).nodes site index).bodies ((steps d empty all).nodes site index).heard }
 {}
 
-/// Messages that are passed as they are, whatever is known of the deployment, are read in range where they were sent so.
-pub fn messages_passed_read_in_range()
-    ensures { (d : Deployment Message) (seal : Who → ℕ → Statement → Bytes) (knows : Message → Bool) (m n : Message) →
-        d.formats ≡ record (passed seal) { knows = knows } → MessageInRange m → d.formats.read (d.formats.encode m) ≡ Clean n → MessageInRange n }
+/// Messages that are passed as they are, whatever is known of the deployment, are read as they were sent (`sent`). So
+/// a deployment of such messages is in range, where its numbers, seals and service are and only its servers run code
+/// (`inside`): there is one (`one`).
+pub fn messages_passed_read_as_sent()
+    ensures sent { (d : Deployment Message) (seal : Who → ℕ → Statement → Bytes) (knows : Message → Bool) (m n : Message) →
+        d.formats ≡ record (passed seal) { knows = knows } → d.formats.read (d.formats.encode m) ≡ Clean n → n ≡ m }
+    ensures inside { (d : Deployment Message) (seal : Who → ℕ → Statement → Bytes) (knows : Message → Bool) →
+        d.formats ≡ record (passed seal) { knows = knows } → KeepsRanges d → DeploymentInRange d }
+    ensures one { DeploymentInRange one_server }
 {}
 
 #[cfg(test)]
@@ -63,7 +71,7 @@ mod tests {
         parts_keep_ranges();
         worlds_send_in_range::<Message>();
         worlds_send_in_range::<Bytes>();
-        messages_passed_read_in_range();
+        messages_passed_read_as_sent();
         assert!(rt; true);
     }
 }

@@ -3,5 +3,4 @@ pub mod EndLaws
 pub mod LineLaws
 pub mod LogLaws
 pub mod RowLaws
-pub mod SizeLaws
 pub mod ReplayLaws

@@ -4,7 +4,7 @@ use Rattle.std.specs.Prelude.{map}
 use Rattle.std.proofs.lemmas.List.{map-append}
 use Rattle.std.proofs.lemmas.Grind.{flat_map-append}
 use Rattle.st_words.specs.declared.deployment.Deployment.{Deployment}
-use Rattle.st_message.specs.declared.message.Message.{Message}
+use Rattle.st_protocol.specs.Words.{Bytes}
 use Rattle.st_schedule.specs.declared.line.Line.{Line}
 use Rattle.st_schedule.specs.declared.done.Done.{Done}
 use Rattle.st_protocol.specs.World as model
@@ -13,7 +13,7 @@ use Rattle.st_protocol.specs.Schedule.{step, steps}
 use Rattle.st_protocol.specs.Report.{came_from, done_row, done_words}
 use Rattle.st_flows.proofs.LineLaws.{steps_more, came_from_more}
 use Rattle.st_input.specs.declared.input.InputLine.{InputLine}
-use Rattle.st_server.specs.Deployed.{world_deployment}
+use Rattle.st_deployment.specs.Deployed.{world_deployment}
 use Rattle.st_world.specs.Standing.{IsWorld}
 use Rattle.st_replay.specs.declared.lines.Replay.{Replay}
 use Rattle.st_replay.specs.Lines.{events_in, numbered_in, world_after, came_after, done_rows, IsReplayed}
@@ -51,14 +51,13 @@ replayed_none replay d world done = record { world = world; done = done }
 
 -- a line is taken
 pub replayed_more : (old new : Replay) (d : Deployment) (before : List InputLine) (x : InputLine) (done : Done)
-    → ((m : model.World Message) → IsWorld old.world d m → IsWorld new.world d (step (world_deployment d) m x.line).world)
-    → ((m : model.World Message) → IsWorld old.world d m → done ≡ (step (world_deployment d) m x.line).done)
+    → IsWorld new.world d (step (world_deployment d) (world_after d before) x.line).world → done ≡ (step (world_deployment d) (world_after d before) x.line).done
     → new.done ≡ old.done ++ record { line = x.number; words = done_words done } ∷ [] → IsReplayed old d before → IsReplayed new d (before ++ x ∷ [])
 replayed_more old new d before x done goes comes rows so =
     record {
-      world = subst (IsWorld new.world d) (sym (world_more d before x)) (goes (world_after d before) so.world);
+      world = subst (IsWorld new.world d) (sym (world_more d before x)) goes;
       done =
           rows
-          ∙ ((λ i. so.done i ++ record { line = x.number; words = done_words (comes (world_after d before) so.world i) } ∷ [])
+          ∙ ((λ i. so.done i ++ record { line = x.number; words = done_words (comes i) } ∷ [])
           ∙ sym (rows_more d before x));
     }

@@ -3,7 +3,7 @@ use Rattle.std.proofs.Common.{◌≡◌, ◌∙◌, ap, refl, subst, sym, ℕ, L
 use Rattle.std.specs.Prelude.{Result, Ok, Err, Option, Some, None, IfOk, IsOkUnless}
 use Rattle.st_report.specs.Text.{report}
 use Rattle.st_protocol.specs.Keeping.{given}
-use Rattle.st_protocol.specs.World.{Fault, BadReference, TooMany, empty}
+use Rattle.st_protocol.specs.World.{Fault, BadReference, Forged, TooMany, TooMuch, empty}
 use Rattle.st_input.specs.declared.input.Input.{Input}
 use Rattle.st_input.specs.declared.input.InputLine.{InputLine}
 use Rattle.st_replay.specs.declared.lines.Replay.{Replay}
@@ -24,6 +24,8 @@ by_end input end is = ap (replayed_by input) is
 
 by_error : (error : ReplayError) (input : Input) → IsEnd error (end_in input.deployment input.lines) → IsReplay (Err error) (replay_of input)
 by_error (errors.BadReference line) input end = by_end input (Some (line, BadReference)) end
+by_error (errors.Forged line place) input end = by_end input (Some (line, Forged place)) end
+by_error (errors.TooMuch line) input end = (end.0, by_end input (Some (line, TooMuch end.0)) end.1)
 by_error (errors.TooMany line) input end = (end.0, by_end input (Some (line, TooMany end.0)) end.1)
 by_error errors.OutOfMemory input end = tt
 
@@ -39,6 +41,8 @@ pub reported : (result : Result (List ℕ) ReplayError) (replay : Replay) (input
 reported (Ok text) replay input so is memory = by_end input None (no_end input.deployment empty input.lines so.world.going) ∙ ap Reported (sym (is input.lines so))
 reported (Err errors.OutOfMemory) replay input so is memory = tt
 reported (Err (errors.BadReference line)) replay input so is memory = absurd (let no : errors.BadReference line ≡ errors.OutOfMemory = memory in cc)
+reported (Err (errors.Forged line place)) replay input so is memory = absurd (let no : errors.Forged line place ≡ errors.OutOfMemory = memory in cc)
+reported (Err (errors.TooMuch line)) replay input so is memory = absurd (let no : errors.TooMuch line ≡ errors.OutOfMemory = memory in cc)
 reported (Err (errors.TooMany line)) replay input so is memory = absurd (let no : errors.TooMany line ≡ errors.OutOfMemory = memory in cc)
 
 -- ---- the end of the whole world

@@ -1,17 +1,15 @@
 -- The rows of a world in memory are those of the world that it stands for.
-use Rattle.std.proofs.Common.{◌≡◌, ◌∙◌, ap, sym, ℕ, ◌+◌, ◌*◌, ◌-◌, ◌&&◌, ◌||◌, not, nat_lt, cond, List, [], ◌∷◌, length, drop}
-use Rattle.std.proofs.lemmas.List.{length-map, length-drop}
+use Rattle.std.proofs.Common.{◌≡◌, ◌∙◌, ap, sym, ℕ, ◌+◌, ◌*◌, ◌^◌, ◌<◌, ◌&&◌, ◌||◌, not, nat_lt, cond, List, [], ◌∷◌, length, arith}
 use Rattle.st_words.specs.declared.deployment.Deployment.{Deployment}
 use Rattle.st_words.specs.declared.ids.ServerId.{ServerId}
 use Rattle.st_message.specs.declared.change.Change.{Change}
 use Rattle.st_message.specs.declared.change.Heard.{Heard}
-use Rattle.st_message.specs.declared.message.Message.{Message}
 use Rattle.st_report.specs.declared.rows.LogRow.{LogRow}
 use Rattle.st_report.specs.declared.rows.ServerRow.{ServerRow}
 use Rattle.st_report.specs.declared.rows.ClientRow.{ClientRow}
 use Rattle.st_report.specs.declared.rows.StateWord.TheVariants as states
 use Rattle.st_report.specs.declared.rows.Rows.{Rows}
-use Rattle.st_protocol.specs.Words.{a_server}
+use Rattle.st_protocol.specs.Words.{Bytes, a_server}
 use Rattle.st_protocol.specs.Step.{all_below}
 use Rattle.st_protocol.specs.Questions.{executed_values, questions}
 use Rattle.st_protocol.specs.World as model
@@ -21,12 +19,13 @@ use Rattle.st_live.specs.LiveView.{place_here}
 use Rattle.st_live.proofs.LiveLaws.{here_is}
 use Rattle.st_server.specs.declared.server.Server.{Server}
 use Rattle.st_server.specs.Serving.{Stands, seat_by}
-use Rattle.st_server.specs.Deployed.{world_deployment}
+use Rattle.st_deployment.specs.Deployed.{world_deployment}
 use Rattle.st_flows.proofs.PlainKept.{plain_at}
 use Rattle.st_config.specs.Taken.{IsTaken}
 use Rattle.st_input.specs.declared.input.InputLine.{InputLine}
 use Rattle.st_world.specs.declared.world.World.{World}
-use Rattle.st_world.specs.Waiting.{pair_of, waiting_of, customer_in}
+use Rattle.st_waiting.specs.Undelivered.{pairs_in}
+use Rattle.st_world.specs.Customers.{customer_in}
 use Rattle.st_world.specs.Standing.{IsWorld}
 use Rattle.st_replay.specs.declared.lines.Replay.{Replay}
 use Rattle.st_replay.specs.Lines.{world_after, IsReplayed, rows_in}
@@ -75,13 +74,13 @@ rows_by row sites f faulty =
     sites
 
 -- the one server's row
-servers_one : (d : Deployment) (m : model.World Message) → IsTaken d
+servers_one : (d : Deployment) (m : model.World Bytes) → IsTaken d
     → server_rows (world_deployment d) m ≡ server_row (m.nodes 0 0).stand (answers_at (world_deployment d) m 0 0) ∷ []
 unfolding server_rows world_deployment all_below is_listed
 servers_one d m taken =
     λ i. rows_by (λ site index. server_row (m.nodes site index).stand (answers_at (world_deployment d) m site index)) (taken.sites i) (taken.f i) (taken.faulty i)
 
-servers_are : (w : World) (d : Deployment) (m : model.World Message) (row : ServerRow) → IsWorld w d m
+servers_are : (w : World) (d : Deployment) (m : model.World Bytes) (row : ServerRow) → IsWorld w d m
     → ((records : List (List Change)) (heard : List Heard) → Stands w.server records heard → row ≡ server_row Running (questions (seat_by w.server) records heard))
     → row ∷ [] ≡ server_rows (world_deployment d) m
 servers_are w d m row stands is =
@@ -92,17 +91,22 @@ servers_are w d m row stands is =
 
 -- ---- the clients
 
-clients_are : (w : World) (d : Deployment) (m : model.World Message) → IsWorld w d m
-    → all_below (λ c. client_row c (customer_in w.customers c) ∷ []) w.clients ≡ client_rows (world_deployment d) m
+clients_are : (w : World) (d : Deployment) (m : model.World Bytes) → IsWorld w d m
+    → all_below (λ c. client_row c (customer_in w.customers c) ∷ []) w.deployment.clients ≡ client_rows (world_deployment d) m
 unfolding client_rows world_deployment
-clients_are w d m stands = λ i. all_below (λ c. client_row c (stands.customers c i) ∷ []) (stands.set.clients i)
+clients_are w d m stands = λ i. all_below (λ c. client_row c (stands.customers c i) ∷ []) (stands.set.deployment i).clients
 
 -- ---- what waits
 
-pub waiting_is : (w : World) (d : Deployment) (m : model.World Message) → IsWorld w d m → length w.pairs - w.head ≡ length m.waiting
-unfolding waiting_of
-waiting_is w d m stands =
-    sym (length-drop w.head w.pairs) ∙ (sym (length-map (drop w.head w.pairs) pair_of) ∙ ap (λ (ps : List model.Pair). length ps) stands.waiting)
+waiting_is : (w : World) (d : Deployment) (m : model.World Bytes) → IsWorld w d m → length (pairs_in w.waiting) ≡ length m.waiting
+waiting_is w d m stands = ap (λ (ps : List model.Pair). length ps) stands.sending.waiting
+
+-- as many messages were sent as a number of 32 bits says
+pub few_sent : (replay : Replay) (d : Deployment) (lines : List InputLine) → IsReplayed replay d lines → length replay.world.sent < 2 ^ 32
+few_sent replay d lines so =
+    let most = so.world.sending.number in
+    let same : length replay.world.sent ≡ length (world_after d lines).sent = ap (λ (ms : List Bytes). length ms) so.world.sending.sent in
+    omega (arith, most, same)
 
 -- ---- all rows
 
@@ -115,12 +119,12 @@ rows_with replay d row clients =
       servers = row ∷ [];
       clients = clients;
       sent = length replay.world.sent;
-      undelivered = length replay.world.pairs - replay.world.head;
+      undelivered = length (pairs_in replay.world.waiting);
     }
 
 pub rows_are : (replay : Replay) (d : Deployment) (lines : List InputLine) (row : ServerRow) (clients : List ClientRow)
     → ((records : List (List Change)) (heard : List Heard) → Stands replay.world.server records heard → row ≡ server_row Running (questions (seat_by replay.world.server) records heard))
-    → clients ≡ all_below (λ c. client_row c (customer_in replay.world.customers c) ∷ []) replay.world.clients → IsReplayed replay d lines → rows_with replay d row clients ≡ rows_in d lines
+    → clients ≡ all_below (λ c. client_row c (customer_in replay.world.customers c) ∷ []) replay.world.deployment.clients → IsReplayed replay d lines → rows_with replay d row clients ≡ rows_in d lines
 unfolding rows_of world_deployment
 rows_are replay d lines row clients is all so =
     let m = world_after d lines in
@@ -130,6 +134,6 @@ rows_are replay d lines row clients is all so =
       done = so.done i;
       servers = servers_are replay.world d m row so.world is i;
       clients = (all ∙ clients_are replay.world d m so.world) i;
-      sent = length (so.world.sent i);
+      sent = length (so.world.sending.sent i);
       undelivered = waiting_is replay.world d m so.world i;
     }

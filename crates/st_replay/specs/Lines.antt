@@ -2,7 +2,7 @@
 use Rattle.std.specs.Prelude.{◌≡◌, ℕ, List, [], ◌∷◌, map}
 use Rattle.std.specs.List.{flat_map}
 use Rattle.st_words.specs.declared.deployment.Deployment.{Deployment}
-use Rattle.st_message.specs.declared.message.Message.{Message}
+use Rattle.st_protocol.specs.Words.{Bytes}
 use Rattle.st_schedule.specs.declared.line.Line.{Line}
 use Rattle.st_schedule.specs.declared.done.Done.{Done}
 use Rattle.st_report.specs.declared.rows.DoneRow.{DoneRow}
@@ -12,7 +12,7 @@ use Rattle.st_protocol.specs.World.{empty}
 use Rattle.st_protocol.specs.Schedule.{steps}
 use Rattle.st_protocol.specs.Report.{came_from, done_row, rows_of}
 use Rattle.st_input.specs.declared.input.InputLine.{InputLine}
-use Rattle.st_server.specs.Deployed.{world_deployment}
+use Rattle.st_deployment.specs.Deployed.{world_deployment}
 use Rattle.st_world.specs.Standing.{IsWorld}
 use Rattle.st_replay.specs.declared.lines.Replay.{Replay}
 
@@ -25,7 +25,7 @@ abbrev pub numbered_in : List InputLine → List (ℕ × Line)
 numbered_in lines = map (λ x. (x.number, x.line)) lines
 
 -- the world that these lines lead to
-abbrev pub world_after : Deployment → List InputLine → model.World Message
+abbrev pub world_after : Deployment → List InputLine → model.World Bytes
 world_after d lines = steps (world_deployment d) empty (events_in lines)
 
 -- what these lines come to

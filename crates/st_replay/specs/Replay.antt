@@ -2,7 +2,7 @@
 use Rattle.std.specs.Prelude.{◌≡◌, ℕ, List, Result, Ok, Err}
 use Rattle.st_protocol.specs.Keeping.{given}
 use Rattle.st_report.specs.Text.{report}
-use Rattle.st_protocol.specs.World.{Fault, BadReference, TooMany}
+use Rattle.st_protocol.specs.World.{Fault, BadReference, Forged, TooMany, TooMuch}
 use Rattle.st_input.specs.declared.input.Input.{Input}
 use Rattle.st_replay.specs.declared.error.ReplayError.{ReplayError}
 use Rattle.st_replay.specs.declared.error.ReplayError.TheVariants as errors
@@ -24,5 +24,7 @@ replay_of input =
 abbrev pub IsReplay : Result (List ℕ) ReplayError → Replayed → Type 0
 IsReplay (Ok text) replayed = replayed ≡ Reported text
 IsReplay (Err (errors.BadReference line)) replayed = replayed ≡ Ended line BadReference
+IsReplay (Err (errors.Forged line place)) replayed = replayed ≡ Ended line (Forged place)
 IsReplay (Err (errors.TooMany line)) replayed = (count : ℕ) × (replayed ≡ Ended line (TooMany count))
+IsReplay (Err (errors.TooMuch line)) replayed = (bytes : ℕ) × (replayed ≡ Ended line (TooMuch bytes))
 IsReplay (Err errors.OutOfMemory) replayed = Unit {0}

@@ -4,7 +4,7 @@ ghost use Rattle.st_fields.specs.declared.error.WordsError.TheVariants as words;
 ghost use Rattle.st_protocol.specs.Step.{all_below};
 ghost use Rattle.st_protocol.specs.Report.{client_row, result_of};
 ghost use Rattle.st_client.specs.Customers.{customer_of};
-ghost use Rattle.st_world.specs.Waiting.{customer_by, customer_in};
+ghost use Rattle.st_world.specs.Customers.{customer_by, customer_in};
 
 use st_client::Client;
 use st_fields::{Bytes, Copied, Seq, WordsError};
@@ -14,7 +14,7 @@ use st_words::{ClientId, Number};
 use std::alloc::Global;
 
 /// The rows of the first clients, in order. One that isn't in the table has asked for nothing.
-#[tactic(auto, unfolding(st_protocol::specs::Step::all_below, st_world::specs::Waiting::customer_in))]
+#[tactic(auto, unfolding(st_protocol::specs::Step::all_below, st_world::specs::Customers::customer_in))]
 pub(crate) fn client_rows(
     alloc: Global,
     customers: &Table<Client>,

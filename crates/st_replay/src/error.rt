@@ -9,8 +9,13 @@ use st_report::ReportError;
 pub enum ReplayError {
     /// This line names what does not exist.
     BadReference { line: u32 },
+    /// This line brings in bytes with a seal that checks for a correct party which never made it: the offset of
+    /// that seal's bytes in the message.
+    Forged { line: u32, place: usize },
     /// At this line too many messages would be sent.
     TooMany { line: u32 },
+    /// At this line too many bytes would be sent.
+    TooMuch { line: u32 },
     /// Memory was refused.
     OutOfMemory,
 }

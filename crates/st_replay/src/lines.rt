@@ -7,7 +7,7 @@ ghost use Rattle.st_config.specs.Taken.{IsTaken};
 ghost use Rattle.st_input.specs.declared.input.InputLine.{InputLine};
 ghost use Rattle.st_world.specs.Standing.{IsStanding};
 ghost use Rattle.st_replay.specs.declared.error.ReplayError.TheVariants as errors;
-ghost use Rattle.st_replay.specs.Ends.{IsEnd, end_in};
+ghost use Rattle.st_replay.specs.Ends.{IsEnd, end_in, ended_at};
 ghost use Rattle.st_replay.specs.Lines.{IsReplayed};
 
 use crate::error::ReplayError;
@@ -29,7 +29,8 @@ pub struct Replay {
 
 /// The world that an input's event lines lead to, one by one, in a deployment that is taken today.
 ///
-/// TooMany and BadReference come only where the definitions' world ends so, with the line that ends it.
+/// BadReference, Forged, TooMany and TooMuch come only where the definitions' world ends so, with the line that ends
+/// it.
 pub fn replay_lines(
     alloc: Global,
     d: &Deployment,
@@ -84,10 +85,21 @@ impl Replay {
                 })?;
                 Ok(())
             }
-            Err(WorldError::BadReference) => Err(ReplayError::BadReference { line: line.number }),
-            Err(WorldError::TooMany) => Err(ReplayError::TooMany { line: line.number }),
-            Err(WorldError::OutOfMemory) => Err(ReplayError::OutOfMemory),
+            Err(error) => Err(ended_at(line.number, error)),
         }
+    }
+}
+
+// The error of a line.
+fn ended_at(line: u32, error: WorldError) -> ReplayError
+    ensures { result ≡ ended_at line error }
+{
+    match error {
+        WorldError::BadReference => ReplayError::BadReference { line },
+        WorldError::Forged { place } => ReplayError::Forged { line, place },
+        WorldError::TooMany => ReplayError::TooMany { line },
+        WorldError::TooMuch => ReplayError::TooMuch { line },
+        WorldError::OutOfMemory => ReplayError::OutOfMemory,
     }
 }
 

@@ -1,4 +1,4 @@
-ghost use Rattle.std.specs.Prelude.{◌≡◌, List, ◌+◌, ◌≤◌, ◌<◌, ◌^◌, length, IfOk, IsOkUnless};
+ghost use Rattle.std.specs.Prelude.{◌≡◌, List, ◌<◌, ◌^◌, length, IfOk, IsOkUnless};
 ghost use Rattle.std.specs.List.{All};
 ghost use Rattle.st_report.specs.Text.{report};
 ghost use Rattle.st_config.specs.Built.{IsBuilt};
@@ -17,8 +17,8 @@ use st_report::report_text;
 use st_words::Deployment;
 use std::alloc::Global;
 
-/// The report of an input's world: BadReference or TooMany exactly where that world ends so, with the line that
-/// ends it.
+/// The report of an input's world: BadReference, Forged, TooMany or TooMuch exactly where that world ends so, with the
+/// line that ends it.
 pub fn replay(alloc: Global, input: &Input) -> Result<Bytes, ReplayError>
     requires taken { IsTaken input.now.deployment }
     requires built { All (λ x. IsBuilt x.line) input.now.lines }
@@ -31,8 +31,6 @@ pub fn replay(alloc: Global, input: &Input) -> Result<Bytes, ReplayError>
 // The text of the report.
 fn report(alloc: Global, d: &Deployment, replay: Replay) -> Result<Bytes, ReplayError>
     requires sent { length replay.world.sent < 2 ^ 32 }
-    requires pairs { length replay.world.pairs < 2 ^ 32 + replay.world.head }
-    requires head { replay.world.head ≤ length replay.world.pairs }
     ensures text { IfOk result (λ text. (lines : List InputLine) → IsReplayed replay d.now lines → text ≡ report (rows_in d.now lines)) }
     ensures memory { IsOkUnless result errors.OutOfMemory }
 {

@@ -1,4 +1,4 @@
-ghost use Rattle.std.specs.Prelude.{◌≡◌, List, ◌+◌, ◌-◌, ◌≤◌, ◌<◌, ◌^◌, length, IfOk, IsOkUnless};
+ghost use Rattle.std.specs.Prelude.{◌≡◌, List, ◌<◌, ◌^◌, length, IfOk, IsOkUnless};
 ghost use Rattle.st_fields.specs.declared.error.WordsError.TheVariants as words;
 ghost use Rattle.st_input.specs.declared.input.InputLine.{InputLine};
 ghost use Rattle.st_replay.specs.Lines.{IsReplayed, rows_in};
@@ -9,21 +9,18 @@ use crate::server::server_row;
 use st_fields::{Seq, WordsError};
 use st_report::{Header, Rows};
 use st_words::Deployment;
-use st_world::World;
 use std::alloc::Global;
 
 /// The rows of the world that event lines led to.
 pub(crate) fn rows_of(alloc: Global, d: &Deployment, replay: Replay) -> Result<Rows, WordsError>
     requires sent { length replay.world.sent < 2 ^ 32 }
-    requires pairs { length replay.world.pairs < 2 ^ 32 + replay.world.head }
-    requires head { replay.world.head ≤ length replay.world.pairs }
     ensures rows { IfOk result (λ rows. (lines : List InputLine) → IsReplayed replay d.now lines → rows ≡ rows_in d.now lines) }
     ensures memory { IsOkUnless result words.OutOfMemory }
 {
     let Replay { world, done } = replay;
     let sent = world.sent.len() as u32;
-    let undelivered = undelivered(&world);
-    let clients = client_rows(alloc, &world.customers, world.clients)?;
+    let undelivered = world.waiting.len();
+    let clients = client_rows(alloc, &world.customers, world.deployment.clients)?;
     let mut servers = Seq::new(alloc);
     servers.push(server_row(alloc, world.server)?)?;
     Ok(Rows {
@@ -39,13 +36,4 @@ pub(crate) fn rows_of(alloc: Global, d: &Deployment, replay: Replay) -> Result<R
         sent,
         undelivered,
     })
-}
-
-// How many messages wait.
-fn undelivered(world: &World) -> u32
-    requires pairs { length world.now.pairs < 2 ^ 32 + world.now.head }
-    requires head { world.now.head ≤ length world.now.pairs }
-    ensures { result ≡ length world.now.pairs - world.now.head }
-{
-    (world.pairs.len() - world.head) as u32
 }

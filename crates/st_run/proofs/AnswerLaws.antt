@@ -1,5 +1,5 @@
 -- Which answer is given to which words and bytes.
-use Rattle.std.proofs.Common.{◌≡◌, ◌≢◌, ◌∙◌, ap, ◌<◌, ◌≤◌, ℕ, true, false, List, [], ◌++◌, length, leb, Option, Some, inl, inr, refl, sym, arith}
+use Rattle.std.proofs.Common.{◌≡◌, ◌≢◌, ◌∙◌, ap, ◌<◌, ◌≤◌, ℕ, true, false, List, [], ◌∷◌, ◌++◌, length, leb, Option, Some, inl, inr, refl, sym, arith}
 use Rattle.std.specs.Fmt.{decimal}
 use Rattle.std.proofs.lemmas.Bool.{cond-true, cond-false, cond_both, leb-true, false_from_ne_true, false≢true}
 use Rattle.st_protocol.specs.World.{Fault, BadReference, Forged, TooMany, TooMuch}
@@ -7,6 +7,7 @@ use Rattle.st_input.specs.declared.limits.TheConstants.{MOST_INPUT}
 use Rattle.st_input.specs.declared.fault.InputFault.{InputFault}
 use Rattle.st_input.specs.declared.fault.InputFault.TheVariants as faults
 use Rattle.st_input.specs.declared.input.Input.{Input}
+use Rattle.st_input.specs.declared.input.InputLine.{InputLine}
 use Rattle.st_input.specs.Input.{Read, input_of}
 use Rattle.st_run.specs.declared.answer.Answer.{Answer}
 use Rattle.st_run.specs.declared.status.Status.TheVariants as statuses
@@ -16,14 +17,11 @@ use Rattle.st_run.specs.Outcomes.{IsAnswered, IsAnswerTo}
 use Rattle.st_run.specs.Promised.{IsPromised}
 use Rattle.std.specs.Prelude.{Result, Ok, Err, IfOk, codes}
 use Rattle.std.specs.List.{All}
+use Rattle.std.proofs.lemmas.List.Elements.{All-head, All-tail, All-cons}
 use Rattle.st_fields.specs.declared.error.WordsError.{WordsError}
-use Rattle.st_schedule.specs.declared.line.Line.{Line}
-use Rattle.st_schedule.specs.declared.line.Line.TheVariants as lines
 use Rattle.st_config.specs.Built.{IsBuilt}
 use Rattle.st_config.specs.Taken.{IsTaken}
 use Rattle.st_replay.specs.Lines.{events_in}
-use Rattle.st_replay.proofs.SizeLaws.{taken_events}
-use Rattle.st_origins.specs.Origins.{is_honest_line}
 use Rattle.st_promises.proofs.PromiseLaws.{always_keeps}
 
 pub usage_answered : IsAnswered usage.status
@@ -149,16 +147,15 @@ pub fault_promises : (r : Result Answer WordsError) (bytes : List ℕ) (fault : 
 fault_promises (Ok answer) bytes fault is = λ ok. absurd (never_ok_fault fault answer is ok)
 fault_promises (Err error) bytes fault is = tt
 
--- at a line that is taken no faulty server seals, and no bytes come from outside
-honest : (line : Line) → IsBuilt line → is_honest_line line ≡ true
-honest (lines.Client client op) built = refl
-honest (lines.Flow pairs) built = refl
-honest (lines.Show m) built = absurd built
-honest _ built = absurd built
+-- the events of lines that are taken are taken
+built_events : (xs : List InputLine) → All (λ x. IsBuilt x.line) xs → All IsBuilt (events_in xs)
+built_events [] built = λ k line below. absurd (omega (arith, below))
+built_events (x ∷ xs) built =
+    All-cons IsBuilt x.line (events_in xs) (All-head (λ (y : InputLine). IsBuilt y.line) x xs built) (built_events xs (All-tail (λ (y : InputLine). IsBuilt y.line) x xs built))
 
 -- an input that was read has a world that keeps its promises
 pub input_promises : (r : Result Answer WordsError) (bytes : List ℕ) (input : Input) → input_of bytes ≡ Ok input → IsTaken input.deployment → All (λ x. IsBuilt x.line) input.lines
     → IfOk r (λ answer. answer.status ≡ statuses.Ok → IsPromised bytes)
 input_promises (Ok answer) bytes input spells taken built =
-    λ ok. record { input = input; spells = spells; keeps = always_keeps input.deployment (events_in input.lines) taken (taken_events (λ (line : Line). is_honest_line line ≡ true) honest input.lines built) }
+    λ ok. record { input = input; spells = spells; keeps = always_keeps input.deployment (events_in input.lines) taken (built_events input.lines built) }
 input_promises (Err error) bytes input spells taken built = tt

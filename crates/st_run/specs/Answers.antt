@@ -1,5 +1,5 @@
 -- What the program answers to its words and its input: a status, and a text.
-use Rattle.std.specs.Prelude.{ℕ, Bool, false, if◌then◌else◌, nat_le, List, [], ◌∷◌, ◌++◌, length, Result, Ok, Err, bytes_eq, codes}
+use Rattle.std.specs.Prelude.{ℕ, Bool, false, if◌then◌else◌, nat_le, List, [], ◌∷◌, ◌++◌, length, Ok, Err, bytes_eq, codes}
 use Rattle.std.specs.Fmt.{decimal}
 use Rattle.st_protocol.specs.World.{Fault, BadReference, Forged, TooMany, TooMuch}
 use Rattle.st_input.specs.declared.limits.TheConstants.{MOST_INPUT}
@@ -32,7 +32,7 @@ bad_input what = answer_in statuses.BadInput (codes "bad input: " ++ what)
 unfoldable pub too_large : List ℕ → Answer
 too_large what = answer_in statuses.TooLarge (codes "too large: " ++ what)
 
--- a seal that nobody made would be delivered; no line that is taken today can do that
+-- a seal that nobody made would be delivered
 unfoldable pub forged : List ℕ → Answer
 forged what = answer_in statuses.Forged (codes "forged: " ++ what)
 

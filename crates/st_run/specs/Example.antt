@@ -1,4 +1,5 @@
--- The smallest input that does something, what it comes to, and one that names what does not exist.
+-- The smallest event lines that do something, what they come to where messages are passed as they are, and lines that
+-- name what does not exist.
 use Rattle.std.specs.Prelude.{ℕ, List, [], ◌∷◌, Some, None}
 use Rattle.st_words.specs.declared.deployment.Deployment.{Deployment}
 use Rattle.st_words.specs.declared.deployment.ServiceKind.TheVariants as services
@@ -9,7 +10,13 @@ use Rattle.st_schedule.specs.declared.line.Line.TheVariants as lines
 use Rattle.st_report.specs.declared.rows.DoneWords.TheVariants as words
 use Rattle.st_report.specs.declared.rows.StateWord.TheVariants as states
 use Rattle.st_report.specs.declared.rows.Rows.{Rows}
+use Rattle.st_protocol.specs.World.{empty}
+use Rattle.st_protocol.specs.Schedule.{steps}
+use Rattle.st_protocol.specs.Report.{came_from, rows_of}
+use Rattle.st_server.specs.Deployed.{world_deployment}
 use Rattle.st_input.specs.declared.input.Input.{Input}
+use Rattle.st_input.specs.declared.input.InputLine.{InputLine}
+use Rattle.st_replay.specs.Lines.{events_in, numbered_in}
 
 -- one server and one client, with this id and seed
 abbrev pub small_deployment : ℕ → List ℕ → Deployment
@@ -21,12 +28,17 @@ abbrev pub small_operation : List ℕ
 small_operation = 0x68 ∷ 0x69 ∷ []
 
 -- `client C 6869` on line 9 and `flow 50` on line 10
+abbrev pub small_lines : ℕ → List InputLine
+small_lines client =
+    record { number = 9; line = lines.Client (record { 0 = client }) small_operation } ∷ record { number = 10; line = lines.Flow 50 } ∷ []
+
+-- the rows of the world that lines lead to, where messages are passed as they are
+abbrev pub rows_passed : Deployment → List InputLine → Rows
+rows_passed d xs = rows_of (world_deployment d) (came_from (world_deployment d) empty (numbered_in xs)) (steps (world_deployment d) empty (events_in xs))
+
+-- the input of these lines
 abbrev pub small_input : ℕ → List ℕ → ℕ → Input
-small_input id seed client =
-    record {
-      deployment = small_deployment id seed;
-      lines = record { number = 9; line = lines.Client (record { 0 = client }) small_operation } ∷ record { number = 10; line = lines.Flow 50 } ∷ [];
-    }
+small_input id seed client = record { deployment = small_deployment id seed; lines = small_lines client }
 
 -- the service's first result
 abbrev pub first_result : List ℕ
@@ -54,10 +66,6 @@ small_rows id =
       sent = 7;
       undelivered = 0;
     }
-
--- no event lines
-abbrev pub idle_input : ℕ → List ℕ → Input
-idle_input id seed = record { deployment = small_deployment id seed; lines = [] }
 
 -- What no event lines come to: nothing was sent, and nothing ran.
 abbrev pub idle_rows : ℕ → Rows

@@ -1,5 +1,6 @@
-ghost use Rattle.std.specs.Prelude.{◌≡◌, ◌≤◌, ◌∷◌, ◌++◌, [], map, length, string_bytes, IfOk, ◌↔◌};
-ghost use Rattle.st_run.specs.Answers.{at_line, bad_input, bytes_answer, ended_answer, fault_answer, is_replay, line, replay_answer, too_large, usage};
+ghost use Rattle.std.specs.Prelude.{◌≡◌, ◌≤◌, ◌++◌, map, length, string_bytes, codes, IfOk};
+ghost use Rattle.std.specs.Fmt.{decimal};
+ghost use Rattle.st_run.specs.Answers.{at_line, bad_input, bytes_answer, fault_answer, forged, is_replay, line, replay_answer, too_large, usage};
 ghost use Rattle.st_replay.specs.Replay.{replay_of};
 ghost use Rattle.std.specs.List.{All};
 ghost use Rattle.st_config.specs.Built.{IsBuilt};
@@ -79,6 +80,18 @@ pub(crate) fn too_large(alloc: Global, what: &str) -> Result<Answer, WordsError>
     })
 }
 
+/// A seal that nobody made would be delivered.
+#[tactic(auto, unfolding(crate::specs::Answers::forged))]
+fn forged(alloc: Global, what: &str) -> Result<Answer, WordsError>
+    ensures { IfOk result (λ answer. answer ≡ forged what.now) }
+{
+    let text = format!(in alloc; "forged: {what}")?;
+    Ok(Answer {
+        status: Status::Forged,
+        text: line(alloc, text.as_str())?,
+    })
+}
+
 /// A line by its number, and what of it.
 #[tactic(auto, unfolding(crate::specs::Answers::at_line))]
 fn at_line(alloc: Global, line: u32, what: &str) -> Result<String, WordsError>
@@ -92,6 +105,14 @@ fn bad_line(alloc: Global, line: u32, what: &str) -> Result<Answer, WordsError>
     ensures { IfOk result (λ answer. answer ≡ bad_input (at_line line what.now)) }
 {
     bad_input(alloc, at_line(alloc, line, what)?.as_str())
+}
+
+/// The bytes that a line brings in hold such a seal, at this offset.
+fn forged_at(alloc: Global, line: u32, place: usize) -> Result<Answer, WordsError>
+    ensures { IfOk result (λ answer. answer ≡ forged (at_line line (codes " place " ++ decimal place))) }
+{
+    let what = format!(in alloc; " place {place}")?;
+    forged(alloc, at_line(alloc, line, what.as_str())?.as_str())
 }
 
 /// The answer to an input with this fault.
@@ -137,7 +158,9 @@ fn replay_answer(alloc: Global, input: &Input) -> Result<Answer, WordsError>
             text,
         }),
         Err(ReplayError::BadReference { line }) => bad_line(alloc, line, ": reference"),
+        Err(ReplayError::Forged { line, place }) => forged_at(alloc, line, place),
         Err(ReplayError::TooMany { .. }) => too_large(alloc, "messages"),
+        Err(ReplayError::TooMuch { .. }) => too_large(alloc, "messages"),
         Err(ReplayError::OutOfMemory) => Err(WordsError::OutOfMemory),
     }
 }

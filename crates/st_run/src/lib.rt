@@ -7,7 +7,7 @@ mod program;
 mod status;
 
 pub use answer::Answer;
-pub use example::a_small_replay;
+pub use example::a_small_world;
 pub use program::run;
 pub use status::Status;
 

@@ -42,6 +42,51 @@ fn one_update_runs(rt: HostRuntime) -> Result<(), Fail> {
 }
 
 #[test]
+fn messages_are_moved_shown_and_brought_in(rt: HostRuntime) -> Result<(), Fail> {
+    let alloc = rt.alloc();
+    let update =
+        "53544d310000000000000007010100000000010001bc002400000000334136ce49cc8032e47e88a8a45b3b605046fed9eca8c2e6024e63f50913d7fe";
+    let lines = format!(in alloc;
+        "client 0 bc\ndrop 0 0.0\nshow 0\nraw 0.0 {update}\nclient 0 5c\ndeliver 2 0.0\nlose 0.0\nraw c0 00\n"
+    )?;
+    let text = input(alloc, lines.as_str())?;
+    let (status, written) = ran(alloc, &["replay"], text.as_bytes())?;
+    assert_eq!(rt; status, Status::Ok);
+    let report = format!(in alloc;
+        "deployment 7 sites 1 f 0 clients 1\nline 9 sent 0\nline 10 dropped 1\nline 11 show {update}\nline 12 did\nline 13 sent 2\nline 14 did\nline 15 dropped 2\nline 16 ignored malformed 0\nserver 0.0 running view 0 local 0 executed 0 leaf 2\nclient 0 time 2 waiting\nsent 4 undelivered 0\n"
+    )?;
+    assert!(rt; written.as_slice() == report.as_bytes());
+    Ok(())
+}
+
+#[test]
+fn a_forged_seal_ends_the_world(rt: HostRuntime) -> Result<(), Fail> {
+    let alloc = rt.alloc();
+    // a Share of the server's Prepare of that update at number 2
+    let text = input(
+        alloc,
+        "client 0 aa\nraw 0.0 53544d3100000000000000070301000000000000000000000000020100000000010001aa00002400000000cbdc70323e58634b55b5163fb7a31aec3912efb9ebdd50fe4815f7e0026e9e4e\n",
+    )?;
+    let (status, written) = ran(alloc, &["replay"], text.as_bytes())?;
+    assert_eq!(rt; status.exit_code(), 6);
+    assert!(rt; written.as_slice() == b"forged: line 10 place 39\n".as_slice());
+    Ok(())
+}
+
+#[test]
+fn one_update_runs_with_hash_based_seals(rt: HostRuntime) -> Result<(), Fail> {
+    let alloc = rt.alloc();
+    let text =
+        "id = 7\nsites = 1\nf = 0\nclients = 1\nservice = \"list\"\nseals = \"hss\"\nheight = 5\nwidth = 4\nlevels = 1\nseed = \"0000000000000000000000000000000000000000000000000000000000000000\"\n---\nclient 0 6869\nflow 50\n";
+    let (status, written) = ran(alloc, &["replay"], text.as_bytes())?;
+    assert_eq!(rt; status, Status::Ok);
+    let report =
+        "deployment 7 sites 1 f 0 clients 1\nline 12 sent 0\nline 13 flow 7 did 7 ignored 0\nserver 0.0 running view 0 local 0 executed 1 leaf 4\nnumber 1 update 0 1 6869 ran 00000001\nclient 0 time 1 number 1 result 00000001\nsent 7 undelivered 0\n";
+    assert!(rt; written.as_slice() == report.as_bytes());
+    Ok(())
+}
+
+#[test]
 fn no_event_lines_run_nothing(rt: HostRuntime) -> Result<(), Fail> {
     let alloc = rt.alloc();
     let (status, written) = ran(alloc, &["replay"], HEADER.as_bytes())?;
@@ -94,8 +139,16 @@ fn faults_of_event_lines(rt: HostRuntime) -> Result<(), Fail> {
             "# first\n\nflow 0\nflow 01",
             "bad input: line 11: grammar\n",
         ),
-        ("flow 1\nshow 0\nflow\n", "bad input: line 10: not-built\n"),
+        (
+            "flow 1\ntick 0.0\nflow\n",
+            "bad input: line 10: not-built\n",
+        ),
         ("flow 1\nclient 1 aa\n", "bad input: line 10: reference\n"),
+        ("deliver 0 0.0\n", "bad input: line 9: reference\n"),
+        ("drop 0 0.0\n", "bad input: line 9: reference\n"),
+        ("lose c1\n", "bad input: line 9: reference\n"),
+        ("raw 1.0 00\n", "bad input: line 9: reference\n"),
+        ("show 0\n", "bad input: line 9: reference\n"),
         (
             "client 1 aa\nflow 1\nflow\n",
             "bad input: line 11: grammar\n",

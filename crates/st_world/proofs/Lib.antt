@@ -1,9 +1,13 @@
 -- Lemmas.
+pub mod EndLaws
 pub mod SendLaws
+pub mod NoteLaws
+pub mod HandLaws
 pub mod ServeLaws
-pub mod CustomerLaws
 pub mod DeliverLaws
-pub mod NewLaws
+pub mod CustomerLaws
 pub mod FlowLaws
 pub mod SubmitLaws
+pub mod ForgedLaws
+pub mod NewLaws
 pub mod StepLaws

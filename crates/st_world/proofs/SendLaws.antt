@@ -1,158 +1,161 @@
 -- A message more.
-use Rattle.std.proofs.Common.{◌≡◌, ◌∙◌, ap, sym, subst, ℕ, ◌+◌, ◌*◌, ◌<◌, ◌≤◌, Option, Some, None, List, [], ◌∷◌, ◌++◌, length, take, drop, get_or, map, refl, arith, zero, suc}
-use Rattle.std.specs.List.{fold}
-use Rattle.std.proofs.lemmas.List.{length-append, take-append-drop}
-use Rattle.st_server.proofs.LoopLaws.{taken_next, dropped_next}
-use Rattle.st_world.specs.Handing.{IsHanded}
+use Rattle.std.proofs.Common.{◌≡◌, ◌∙◌, ap, sym, subst, ℕ, ◌+◌, ◌-◌, ◌<◌, ◌≤◌, nat_le, nat_lt, Bool, true, false, cond, Option, Some, None, Result, Ok, Err, List, [], ◌∷◌, ◌++◌, length, refl, arith, le-leb}
+use Rattle.std.proofs.lemmas.Bool.{lt-leb, lt-ltb, ltb-true}
+use Rattle.std.proofs.lemmas.List.{length-append}
 use Rattle.st_words.specs.declared.deployment.Deployment.{Deployment}
-use Rattle.st_words.specs.declared.statement.Statement.{Statement}
-use Rattle.st_message.specs.declared.message.Message.{Message}
-use Rattle.st_message.specs.declared.event.Scope.{Scope}
-use Rattle.st_message.specs.declared.event.Scope.TheVariants as scopes
 use Rattle.st_message.specs.declared.event.Output.{Output}
-use Rattle.st_schedule.specs.declared.limits.TheConstants.{MOST_MESSAGES}
+use Rattle.st_message.specs.declared.event.Scope.{Scope}
+use Rattle.st_schedule.specs.declared.limits.TheConstants.{MOST_MESSAGES, MOST_SENT}
 use Rattle.st_schedule.specs.declared.line.Dest.{Dest}
-use Rattle.st_schedule.specs.declared.line.Dest.TheVariants as dests
-use Rattle.st_protocol.specs.Words.{a_server, server_at}
-use Rattle.st_protocol.specs.Keeping.{given}
-use Rattle.st_protocol.specs.Step.{all_below}
+use Rattle.st_protocol.specs.Words.{Bytes}
+use Rattle.st_protocol.specs.Keeping.{or_else}
 use Rattle.st_protocol.specs.World as model
-use Rattle.st_protocol.specs.World.{Fault, TooMany, Node, Customer, sends_to, send_fault, hands, hands_one, hands_out, notes_seal, handed, dests_of, site_dests, pairs_to, seat_of}
-use Rattle.st_flows.proofs.SendLaws.{sends_to_goes_on, sends_to_too_many}
-use Rattle.st_flows.proofs.EndLaws.{hands_out_ended}
-use Rattle.st_flows.proofs.PlainKept.{plain_sends_to, plain_hands}
-use Rattle.st_config.specs.Taken.{IsTaken}
-use Rattle.st_server.specs.Deployed.{world_deployment}
+use Rattle.st_protocol.specs.World.{Fault, TooMany, TooMuch, notes_seal, hands_one, sends_to, send_fault, sent_size, size_of, dests_of, pairs_to}
+use Rattle.st_wire.specs.Spelling.{message_spelling}
+use Rattle.st_flows.proofs.PlainKept.{plain_sends_to}
+use Rattle.st_waiting.specs.declared.waiting.Waiting.{Waiting}
+use Rattle.st_waiting.specs.Undelivered.{pairs_in, newest_in}
+use Rattle.st_deployment.specs.Deployed.{world_deployment}
 use Rattle.st_world.specs.declared.world.World.{World}
-use Rattle.st_world.specs.declared.pair.Pair.{Pair}
-use Rattle.st_world.specs.Waiting.{pair_of, waiting_of}
-use Rattle.st_world.specs.Standing.{IsWorld, HasTooMany}
+use Rattle.st_world.specs.declared.error.WorldError.{WorldError}
+use Rattle.st_world.specs.Standing.{AreSent, IsSet, IsSent, IsWorld, Ends}
 
--- ---- destinations
+-- ---- sizes
 
--- a site of one server
-site_one : (d : Deployment) (site : ℕ) → IsTaken d → site_dests (world_deployment d) site ≡ dests.Server (a_server site 0) ∷ []
-unfolding world_deployment all_below
-site_one d site taken = ap (λ f. all_below (λ i. dests.Server (a_server site i) ∷ []) (3 * f + 1)) taken.f
+-- a message has its own bytes
+size_is : (d : Deployment) (bytes : Bytes) → size_of (world_deployment d) bytes ≡ length bytes
+unfolding world_deployment
+size_is d bytes = refl
 
-pub dest_all : (d : Deployment) → IsTaken d → dests_of (world_deployment d) scopes.All ≡ dests.Server (a_server 0 0) ∷ []
-unfolding world_deployment all_below
-dest_all d taken = ap (λ n. all_below (λ s. site_dests (world_deployment d) s) n) taken.sites ∙ site_one d 0 taken
+-- one message more
+size_more : (d : Deployment) (sent : List Bytes) (bytes : Bytes) → sent_size (world_deployment d) (sent ++ bytes ∷ []) ≡ sent_size (world_deployment d) sent + length bytes
+unfolding sent_size
+size_more d [] bytes = let own = size_is d bytes in omega (arith, own)
+size_more d (x ∷ xs) bytes = let rest = size_more d xs bytes in omega (arith, rest)
 
-pub dest_site : (d : Deployment) (site : ℕ) → IsTaken d → dests_of (world_deployment d) (scopes.Site (record { 0 = site })) ≡ dests.Server (a_server site 0) ∷ []
-dest_site d site taken = site_one d site taken
+-- ---- faults
+
+-- b isn't below a
+not_less : (a b : ℕ) → b ≤ a → nat_lt a b ≡ false
+not_less a b most = by (nat_lt a b) refl
+  where
+    by : (c : Bool) → nat_lt a b ≡ c → nat_lt a b ≡ false
+    by true e = absurd (let less = ltb-true a b e in omega (arith, most, less))
+    by false e = e
+
+module _ (d : Deployment) (m : model.World Bytes) (bytes : Bytes) where
+  -- by the two tests
+  fault_by : (many much : Bool) → nat_le MOST_MESSAGES (length m.sent) ≡ many → nat_lt MOST_SENT (sent_size (world_deployment d) m.sent + size_of (world_deployment d) bytes) ≡ much
+      → send_fault (world_deployment d) m bytes
+      ≡ cond many (Some (TooMany (length m.sent + 1))) (cond much (Some (TooMuch (sent_size (world_deployment d) m.sent + size_of (world_deployment d) bytes))) None)
+  fault_by many much e f =
+      λ i. cond (e i) (Some (TooMany (length m.sent + 1))) (cond (f i) (Some (TooMuch (sent_size (world_deployment d) m.sent + size_of (world_deployment d) bytes))) None)
+
+  -- a world that goes on ends by what is wrong with the message
+  ends_by : (to : List Dest) → m.ended ≡ None → (sends_to (world_deployment d) m bytes to).ended ≡ send_fault (world_deployment d) m bytes
+  unfolding sends_to
+  ends_by to going = ap (λ (o : Option Fault). or_else o (send_fault (world_deployment d) m bytes)) going
+
+-- ---- what waits
+
+-- pairs of fewer messages
+pub more_below : (a b : ℕ) (pairs : List model.Pair) → a ≤ b → AreSent a pairs → AreSent b pairs
+more_below a b [] most below = tt
+more_below a b (p ∷ ps) most below = let here = below.0 in (omega (arith, most, here), more_below a b ps most below.1)
+
+-- pairs of the newest message
+new_below : (message count : ℕ) (to : List Dest) → message < count → AreSent count (pairs_to message to)
+unfolding pairs_to
+new_below message count [] less = tt
+new_below message count (x ∷ xs) less = (less, new_below message count xs less)
+
+-- one list after the other
+both_below : (count : ℕ) (xs ys : List model.Pair) → AreSent count xs → AreSent count ys → AreSent count (xs ++ ys)
+both_below count [] ys first second = second
+both_below count (x ∷ xs) ys first second = (first.0, both_below count xs ys first.1 second)
+
+-- what waits once a message is sent
+sent_below : (old new : ℕ) (pairs : List model.Pair) (to : List Dest) → new ≡ old + 1 → AreSent old pairs → AreSent new (pairs ++ pairs_to old to)
+sent_below old new pairs to next below =
+    both_below new pairs (pairs_to old to) (more_below old new pairs (omega (arith, next)) below) (new_below old new to (omega (arith, next)))
 
 -- ---- one message
 
-no_bytes : (d : Deployment) (m : Message) → (world_deployment d).formats.bytes m ≡ []
-unfolding world_deployment
-no_bytes d m = refl
-
-drop_more : (xs : List Pair) (k : ℕ) (x : Pair) → k ≤ length xs → drop k (xs ++ x ∷ []) ≡ drop k xs ++ x ∷ []
-drop_more xs zero x e = refl
-drop_more [] (suc k) x e = absurd (omega (arith, e))
-drop_more (y ∷ ys) (suc k) x e = drop_more ys k x (omega (arith, e))
-
-map_more : (xs : List Pair) (x : Pair) → map pair_of (xs ++ x ∷ []) ≡ map pair_of xs ++ pair_of x ∷ []
-map_more [] x = refl
-map_more (y ∷ ys) x = ap (λ zs. pair_of y ∷ zs) (map_more ys x)
-
-waiting_more : (pairs : List Pair) (head : ℕ) (p : Pair) → head ≤ length pairs → waiting_of (pairs ++ p ∷ []) head ≡ waiting_of pairs head ++ pair_of p ∷ []
-unfolding waiting_of
-waiting_more pairs head p within = ap (map pair_of) (drop_more pairs head p within) ∙ map_more (drop head pairs) p
-
 -- the world with one message more
-abbrev pub with_sent : World → List Message → List Pair → World
-with_sent w sent pairs = record w { sent = sent; pairs = pairs }
+abbrev pub with_sent : World → List Bytes → ℕ → Waiting → World
+with_sent w sent size waiting = record w { sent = sent; size = size; waiting = waiting }
 
-pub sent_one : (w : World) (sent : List Message) (pairs : List Pair) (d : Deployment) (m : model.World Message) (message : Message) (to : Scope) (dest : Dest) → IsWorld w d m → length w.sent < MOST_MESSAGES
-    → dests_of (world_deployment d) to ≡ dest ∷ [] → sent ≡ w.sent ++ message ∷ [] → pairs ≡ w.pairs ++ record { message = length w.sent; to = dest } ∷ []
-    → IsWorld (with_sent w sent pairs) d (sends_to (world_deployment d) m message (dests_of (world_deployment d) to))
+pub sent_one : (w : World) (sent : List Bytes) (size : ℕ) (waiting : Waiting) (d : Deployment) (m : model.World Bytes) (bytes : Bytes) (to : Scope) (dest : Dest) → IsWorld w d m
+    → length w.sent < MOST_MESSAGES → length bytes ≤ MOST_SENT - w.size → dests_of (world_deployment d) to ≡ dest ∷ [] → sent ≡ w.sent ++ bytes ∷ [] → size ≡ w.size + length bytes
+    → pairs_in waiting ≡ pairs_in w.waiting ++ record { message = length w.sent; to = dest } ∷ [] → newest_in waiting ≡ length w.sent
+    → IsWorld (with_sent w sent size waiting) d (sends_to (world_deployment d) m bytes (dests_of (world_deployment d) to))
 unfolding sends_to pairs_to
-sent_one w sent pairs d m message to dest stands few one sent_is pairs_is =
-    let grown : length pairs ≡ length w.pairs + 1 = ap length pairs_is ∙ length-append w.pairs _ in
-    let head = stands.head in
+sent_one w sent size waiting d m bytes to dest stands few room one sent_is size_now waits newest_is =
+    let was : IsSent w d m = stands.sending in
+    let own = size_is d bytes in
+    let more = size_more d m.sent bytes in
+    let kept = was.size in
+    let most = was.few in
+    let whole : sent_size (world_deployment d) m.sent + size_of (world_deployment d) bytes ≤ MOST_SENT = omega (arith, own, kept, most, room) in
+    let set : IsSet w d = stands.set in
     record {
-      set = record { taken = stands.set.taken; id = stands.set.id; clients = stands.set.clients; seals = stands.set.seals; sealer = stands.set.sealer; seat = stands.set.seat };
+      set = record { taken = set.taken; deployment = set.deployment; seals = set.seals; sealer = set.sealer; seat = set.seat };
       server = stands.server;
-      plain = plain_sends_to (world_deployment d) m message (dests_of (world_deployment d) to) stands.plain;
+      kept = stands.kept;
+      plain = plain_sends_to (world_deployment d) m bytes (dests_of (world_deployment d) to) stands.plain;
       customers = stands.customers;
-      sent = sent_is ∙ ap (λ (xs : List Message). xs ++ message ∷ []) stands.sent;
-      head = omega (arith, grown, head);
-      waiting =
-          ap (λ (ps : List Pair). waiting_of ps w.head) pairs_is
-          ∙ (waiting_more w.pairs w.head (record { message = length w.sent; to = dest }) stands.head
-          ∙ (λ i. stands.waiting i ++ pairs_to (length (stands.sent i)) (sym one i)));
-      going = sends_to_goes_on (world_deployment d) (no_bytes d) m message (dests_of (world_deployment d) to) (subst (λ (xs : List Message). length xs < MOST_MESSAGES) stands.sent few) stands.going;
+      sending =
+          record {
+            sent = sent_is ∙ ap (λ (xs : List Bytes). xs ++ bytes ∷ []) was.sent;
+            number = let many = length-append m.sent (bytes ∷ []) in let same : length w.sent ≡ length m.sent = ap length was.sent in omega (arith, few, same, many);
+            size = size_now ∙ (ap (λ n. n + length bytes) kept ∙ sym more);
+            few = omega (arith, size_now, most, room);
+            newest = let many = length-append m.sent (bytes ∷ []) in let same : length w.sent ≡ length m.sent = ap length was.sent in omega (arith, newest_is, same, many);
+            below = sent_below (length m.sent) (length (m.sent ++ bytes ∷ [])) m.waiting (dests_of (world_deployment d) to) (length-append m.sent (bytes ∷ [])) was.below;
+            waiting = waits ∙ (λ i. was.waiting i ++ pairs_to (length (was.sent i)) (sym one i));
+            made = was.made;
+          };
+      going =
+          ends_by d m bytes (dests_of (world_deployment d) to) stands.going
+          ∙ fault_by d m bytes false false (lt-leb MOST_MESSAGES (length m.sent) (subst (λ (xs : List Bytes). length xs < MOST_MESSAGES) was.sent few))
+          (not_less MOST_SENT (sent_size (world_deployment d) m.sent + size_of (world_deployment d) bytes) whole);
     }
 
-pub sent_too_many : (w : World) (d : Deployment) (m : model.World Message) (message : Message) (to : Scope) → IsWorld w d m → MOST_MESSAGES ≤ length w.sent
-    → HasTooMany (sends_to (world_deployment d) m message (dests_of (world_deployment d) to)).ended
-sent_too_many w d m message to stands many =
-    (length m.sent + 1, sends_to_too_many (world_deployment d) (no_bytes d) m message (dests_of (world_deployment d) to) (subst (λ (xs : List Message). MOST_MESSAGES ≤ length xs) stands.sent many) stands.going)
+pub sent_too_many : (w : World) (d : Deployment) (m : model.World Bytes) (bytes : Bytes) (to : Scope) → IsWorld w d m → MOST_MESSAGES ≤ length w.sent
+    → (count : ℕ) × ((sends_to (world_deployment d) m bytes (dests_of (world_deployment d) to)).ended ≡ Some (TooMany count))
+sent_too_many w d m bytes to stands many = (
+  length m.sent + 1,
+  ends_by d m bytes (dests_of (world_deployment d) to) stands.going
+      ∙ fault_by d m bytes true (nat_lt MOST_SENT (sent_size (world_deployment d) m.sent + size_of (world_deployment d) bytes))
+      (le-leb MOST_MESSAGES (length m.sent) (subst (λ (xs : List Bytes). MOST_MESSAGES ≤ length xs) stands.sending.sent many)) refl,
+)
 
--- ---- a server's messages
+pub sent_too_much : (w : World) (d : Deployment) (m : model.World Bytes) (bytes : Bytes) (to : Scope) → IsWorld w d m → length w.sent < MOST_MESSAGES → MOST_SENT - w.size < length bytes
+    → (count : ℕ) × ((sends_to (world_deployment d) m bytes (dests_of (world_deployment d) to)).ended ≡ Some (TooMuch count))
+sent_too_much w d m bytes to stands few much =
+    let own = size_is d bytes in
+    let kept = stands.sending.size in
+    let most = stands.sending.few in
+    let over : MOST_SENT < sent_size (world_deployment d) m.sent + size_of (world_deployment d) bytes = omega (arith, own, kept, most, much) in (
+      sent_size (world_deployment d) m.sent + size_of (world_deployment d) bytes,
+      ends_by d m bytes (dests_of (world_deployment d) to) stands.going
+          ∙ fault_by d m bytes false true (lt-leb MOST_MESSAGES (length m.sent) (subst (λ (xs : List Bytes). length xs < MOST_MESSAGES) stands.sending.sent few))
+          (lt-ltb MOST_SENT (sent_size (world_deployment d) m.sent + size_of (world_deployment d) bytes) over),
+    )
 
--- a seal that is noted is none of the world's other matters
-noted : (w : World) (d : Deployment) (m : model.World Message) (o : Output) → IsWorld w d m → IsWorld w d (notes_seal (world_deployment d) 0 0 m o)
-unfolding notes_seal hands
-noted w d m o stands = by_leaf o.leaf
-  where
-    handed_in : (leaf : ℕ) (x : Option Statement) → IsWorld w d (given x m (λ s. hands m (server_at 0 0) leaf s))
-    handed_in leaf None = stands
-    handed_in leaf (Some s) =
-        record {
-          set = stands.set;
-          server = stands.server;
-          plain = plain_hands m (server_at 0 0) leaf s stands.plain;
-          customers = stands.customers;
-          sent = stands.sent;
-          head = stands.head;
-          waiting = stands.waiting;
-          going = stands.going;
-        }
+-- ---- a server's message
 
-    by_leaf : (x : Option ℕ) → IsWorld w d (given x m (λ leaf. given (handed 0 o.message) m (λ s. hands m (server_at 0 0) leaf s)))
-    by_leaf None = stands
-    by_leaf (Some leaf) = handed_in leaf (handed 0 o.message)
-
-pub handed_one : (old new : World) (d : Deployment) (m : model.World Message) (o : Output) → IsWorld old d m
-    → ((k : model.World Message) → IsWorld old d k → IsWorld new d (sends_to (world_deployment d) k o.message (dests_of (world_deployment d) o.to))) → IsWorld new d (hands_one (world_deployment d) 0 0 m o)
+-- what is sent of it
+sent_of : (w : World) (d : Deployment) (m : model.World Bytes) (o : Output) (bytes : Bytes) → IsWorld w d (notes_seal (world_deployment d) 0 0 m o) → bytes ≡ message_spelling w.deployment.id o.message
+    → sends_to (world_deployment d) (notes_seal (world_deployment d) 0 0 m o) bytes (dests_of (world_deployment d) o.to) ≡ hands_one (world_deployment d) 0 0 m o
 unfolding hands_one world_deployment
-handed_one old new d m o stands step = step (notes_seal (world_deployment d) 0 0 m o) (noted old d m o stands)
+sent_of w d m o bytes on is =
+    ap (λ (x : Bytes). sends_to (world_deployment d) (notes_seal (world_deployment d) 0 0 m o) x (dests_of (world_deployment d) o.to)) (is ∙ ap (λ (x : Deployment). message_spelling x.id o.message) on.set.deployment)
 
-pub handed_too_many : (old : World) (d : Deployment) (m : model.World Message) (o : Output) → IsWorld old d m
-    → ((k : model.World Message) → IsWorld old d k → HasTooMany (sends_to (world_deployment d) k o.message (dests_of (world_deployment d) o.to)).ended) → HasTooMany (hands_one (world_deployment d) 0 0 m o).ended
-unfolding hands_one world_deployment
-handed_too_many old d m o stands step = step (notes_seal (world_deployment d) 0 0 m o) (noted old d m o stands)
+pub hands_sent : (w new : World) (d : Deployment) (m : model.World Bytes) (o : Output) (bytes : Bytes) → IsWorld w d (notes_seal (world_deployment d) 0 0 m o) → bytes ≡ message_spelling w.deployment.id o.message
+    → IsWorld new d (sends_to (world_deployment d) (notes_seal (world_deployment d) 0 0 m o) bytes (dests_of (world_deployment d) o.to)) → IsWorld new d (hands_one (world_deployment d) 0 0 m o)
+hands_sent w new d m o bytes on is sent = subst (IsWorld new d) (sent_of w d m o bytes on is) sent
 
--- ---- message by message
-
-fold_more : {S X : Type 0} (f : S → X → S) (s : S) (xs : List X) (x : X) → fold f s (xs ++ x ∷ []) ≡ f (fold f s xs) x
-fold_more f s [] x = refl
-fold_more f s (y ∷ ys) x = fold_more f (f s y) ys x
-
-fold_join : {S X : Type 0} (f : S → X → S) (s : S) (xs ys : List X) → fold f s (xs ++ ys) ≡ fold f (fold f s xs) ys
-fold_join f s [] ys = refl
-fold_join f s (x ∷ xs) ys = fold_join f (f s x) xs ys
-
-pub handed_more : (start old new : World) (outs : List Output) (i : ℕ) (o : Output) (message : Message) → IsHanded start old (take i outs) → i < length outs → o ≡ get_or outs i o → message ≡ o.message
-    → ((d : Deployment) (m : model.World Message) → IsWorld old d m → IsWorld new d (sends_to (world_deployment d) m message (dests_of (world_deployment d) o.to))) → IsHanded start new (take (i + 1) outs)
-handed_more start old new outs i o message so below is same step =
-    λ d m stands.
-    let at : hands_out (world_deployment d) 0 0 m (take (i + 1) outs) ≡ hands_one (world_deployment d) 0 0 (hands_out (world_deployment d) 0 0 m (take i outs)) o =
-    ap (hands_out (world_deployment d) 0 0 m) (taken_next outs i o below is) ∙ fold_more (hands_one (world_deployment d) 0 0) m (take i outs) o in
-    subst (IsWorld new d) (sym at)
-    (handed_one old new d (hands_out (world_deployment d) 0 0 m (take i outs)) o (so d m stands)
-    (λ (k : model.World Message) (w : IsWorld old d k). subst (λ (x : Message). IsWorld new d (sends_to (world_deployment d) k x (dests_of (world_deployment d) o.to))) same (step d k w)))
-
-pub handed_over : (start old : World) (outs : List Output) (i : ℕ) (o : Output) (message : Message) → IsHanded start old (take i outs) → i < length outs → o ≡ get_or outs i o → message ≡ o.message
-    → ((d : Deployment) (m : model.World Message) → IsWorld old d m → HasTooMany (sends_to (world_deployment d) m message (dests_of (world_deployment d) o.to)).ended)
-    → (d : Deployment) (m : model.World Message) → IsWorld start d m → HasTooMany (hands_out (world_deployment d) 0 0 m outs).ended
-handed_over start old outs i o message so below is same step d m stands =
-    let many = handed_too_many old d (hands_out (world_deployment d) 0 0 m (take i outs)) o (so d m stands)
-    (λ (k : model.World Message) (w : IsWorld old d k). subst (λ (x : Message). HasTooMany (sends_to (world_deployment d) k x (dests_of (world_deployment d) o.to)).ended) same (step d k w)) in
-    let at : hands_out (world_deployment d) 0 0 m outs ≡ hands_out (world_deployment d) 0 0 (hands_one (world_deployment d) 0 0 (hands_out (world_deployment d) 0 0 m (take i outs)) o) (drop (i + 1) outs) =
-    ap (hands_out (world_deployment d) 0 0 m) (sym (take-append-drop i outs) ∙ ap (λ ys. take i outs ++ ys) (dropped_next outs i o below is))
-    ∙ fold_join (hands_one (world_deployment d) 0 0) m (take i outs) (o ∷ drop (i + 1) outs) in
-    (many.0, ap (λ (w : model.World Message). w.ended) at ∙ hands_out_ended (world_deployment d) (TooMany many.0) 0 0 _ (drop (i + 1) outs) many.1)
+pub hands_ended : (e : WorldError) (w : World) (d : Deployment) (m : model.World Bytes) (o : Output) (bytes : Bytes) → IsWorld w d (notes_seal (world_deployment d) 0 0 m o) → bytes ≡ message_spelling w.deployment.id o.message
+    → Ends e (sends_to (world_deployment d) (notes_seal (world_deployment d) 0 0 m o) bytes (dests_of (world_deployment d) o.to)).ended → Ends e (hands_one (world_deployment d) 0 0 m o).ended
+hands_ended e w d m o bytes on is ended = subst (λ (x : model.World Bytes). Ends e x.ended) (sent_of w d m o bytes on is) ended

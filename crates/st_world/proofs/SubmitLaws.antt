@@ -1,129 +1,170 @@
 -- A client's update is sent.
-use Rattle.std.proofs.Common.{◌≡◌, ◌∙◌, ap, sym, subst, ℕ, ◌<◌, ◌≤◌, nat_le, nat_lt, Bool, true, false, cond, length, IsTrue, refl, arith}
+use Rattle.std.proofs.Common.{◌≡◌, ◌∙◌, ap, sym, subst, ℕ, ◌+◌, ◌<◌, ◌≤◌, ◌^◌, nat_le, nat_lt, Bool, true, false, cond, Result, Ok, Err, length, IsTrue, refl, arith}
 use Rattle.std.proofs.lemmas.Bool.{le-leb, leb-true, lt-ltb}
 use Rattle.st_words.specs.declared.deployment.Deployment.{Deployment}
+use Rattle.st_words.specs.declared.deployment.SealKind.{SealKind}
 use Rattle.st_words.specs.declared.value.Update.{Update}
 use Rattle.st_words.specs.declared.statement.Statement.{Statement}
 use Rattle.st_words.specs.declared.statement.Statement.TheVariants.{ClientUpdate}
+use Rattle.st_seal.specs.Pen.{Pen}
+use Rattle.st_seal.specs.Scheme.{Scheme, scheme_of, is_party}
+use Rattle.st_hss_seal.specs.Sealers.{scheme_in, pen_of}
+use Rattle.st_hss_seal.specs.Sealing.{capacity_by, pen_in}
 use Rattle.st_message.specs.declared.event.Scope.TheVariants as scopes
 use Rattle.st_message.specs.declared.message.Message.{Message}
 use Rattle.st_message.specs.declared.message.Message.TheVariants as messages
 use Rattle.st_schedule.specs.declared.done.Done.TheVariants as dones
-use Rattle.st_protocol.specs.Words.{Bytes, client_at}
+use Rattle.st_schedule.specs.declared.limits.TheConstants.{MOST_OPERATION}
+use Rattle.st_words.specs.Ranges.{KeepsUpdate}
+use Rattle.st_wire.specs.Ranges.{KeepsSeal, KeepsMessage}
+use Rattle.st_wire.specs.Spelling.{message_spelling}
+use Rattle.st_protocol.specs.Words.{Bytes, server_at, client_at}
 use Rattle.st_protocol.specs.World as model
 use Rattle.st_protocol.specs.World.{Customer, Stepped, stepped, capacity_of, with_customer, hands, sends_to, dests_of}
 use Rattle.st_protocol.specs.Schedule.{submits}
-use Rattle.st_flows.proofs.PlainKept.{plain_hands}
 use Rattle.st_client.specs.Customers.{asks_next}
-use Rattle.st_config.specs.Taken.{IsTaken}
-use Rattle.st_seal.specs.Pen.{Pen}
-use Rattle.st_seal.specs.Scheme.{Scheme}
-use Rattle.st_seal.specs.Keyed.{keyed_pen, sealed_by}
-use Rattle.st_seal.specs.KeyedSchemes.{keyed_scheme}
 use Rattle.st_server.specs.Sealing.{pen_by, sealed_bytes}
-use Rattle.st_server.specs.Deployed.{world_deployment, keyed_seals}
+use Rattle.st_deployment.specs.Deployed.{statement_seal, world_deployment}
+use Rattle.st_deployment.proofs.SetLaws.{capacity_same, capacity_few, choice_of}
+use Rattle.st_deployment.proofs.SealLengths.{seals_keep}
 use Rattle.st_world.specs.declared.world.World.{World}
-use Rattle.st_world.specs.Standing.{IsSet, IsWorld, IsStanding, HasTooMany}
-use Rattle.st_world.specs.Waiting.{customer_in}
+use Rattle.st_world.specs.declared.error.WorldError.{WorldError}
+use Rattle.st_world.specs.Standing.{IsSet, IsWorld, IsStanding, Ends, LedTo, CameTo}
+use Rattle.st_world.specs.Customers.{customer_in}
 use Rattle.st_world.specs.Submitting.{next_update, update_message}
 
+-- ---- the definitions, by how many seals are left
+
 -- the world in which a client asks, and its seal is noted
-abbrev pub asked_world : Deployment → model.World Message → ℕ → ℕ → Bytes → model.World Message
-asked_world d m client used op = hands (with_customer m client (asks_next (m.customers client))) (client_at client) used (ClientUpdate (next_update client used op))
+abbrev pub asked_world : model.World Bytes → ℕ → ℕ → Bytes → model.World Bytes
+asked_world m client used op = hands (with_customer m client (asks_next (m.customers client))) (client_at client) used (ClientUpdate (next_update client used op))
 
 -- the update is sent
-abbrev pub submit_sent : Deployment → model.World Message → ℕ → ℕ → Bytes → Stepped Message
+abbrev pub submit_sent : Deployment → model.World Bytes → ℕ → ℕ → Bytes → Stepped Bytes
 submit_sent d m client used op =
-    stepped (sends_to (world_deployment d) (asked_world d m client used op) (update_message d client used op) (dests_of (world_deployment d) scopes.All)) (dones.Sent (length m.sent))
+    stepped (sends_to (world_deployment d) (asked_world m client used op) (message_spelling d.id (update_message d client used op)) (dests_of (world_deployment d) scopes.All)) (dones.Sent (length m.sent))
 
-submits_is : (d : Deployment) (m : model.World Message) (client : ℕ) (op : Bytes) → IsTaken d
-    → submits (world_deployment d) m client op ≡ cond (nat_le 1048576 (m.customers client).time) (stepped m (dones.SealsSpent (m.customers client).time)) (submit_sent d m client (m.customers client).time op)
+-- by the test
+submits_by : (d : Deployment) (m : model.World Bytes) (client : ℕ) (op : Bytes) (used : ℕ) (spent : Bool) → used ≡ (m.customers client).time → nat_le (capacity_of d.seals) used ≡ spent
+    → submits (world_deployment d) m client op ≡ cond spent (stepped m (dones.SealsSpent used)) (submit_sent d m client used op)
 unfolding submits world_deployment
-submits_is d m client op taken =
-    ap (λ k. cond (nat_le k (m.customers client).time) (stepped m (dones.SealsSpent (m.customers client).time)) (submit_sent d m client (m.customers client).time op)) (ap capacity_of taken.seals)
+submits_by d m client op used spent is e =
+    ap (λ k. cond (nat_le (capacity_of d.seals) k) (stepped m (dones.SealsSpent k)) (submit_sent d m client k op)) (sym is)
+    ∙ ap (λ b. cond b (stepped m (dones.SealsSpent used)) (submit_sent d m client used op)) e
 
-pub submits_spent : (d : Deployment) (m : model.World Message) (client : ℕ) (op : Bytes) (used : ℕ) → IsTaken d → used ≡ (m.customers client).time → 1048576 ≤ used
-    → submits (world_deployment d) m client op ≡ stepped m (dones.SealsSpent used)
-submits_spent d m client op used taken is spent =
-    submits_is d m client op taken
-    ∙ (ap (λ b. cond b (stepped m (dones.SealsSpent (m.customers client).time)) (submit_sent d m client (m.customers client).time op)) (le-leb 1048576 (m.customers client).time (subst (λ k. 1048576 ≤ k) is spent))
-    ∙ ap (λ k. stepped m (dones.SealsSpent k)) (sym is))
-
-pub submits_sent : (d : Deployment) (m : model.World Message) (client : ℕ) (op : Bytes) (used : ℕ) → IsTaken d → used ≡ (m.customers client).time → used < 1048576 → submits (world_deployment d) m client op ≡ submit_sent d m client used op
-submits_sent d m client op used taken is few =
-    submits_is d m client op taken
-    ∙ (ap (λ b. cond b (stepped m (dones.SealsSpent (m.customers client).time)) (submit_sent d m client (m.customers client).time op)) (not_le 1048576 (m.customers client).time (subst (λ k. k < 1048576) is few))
-    ∙ ap (λ k. submit_sent d m client k op) (sym is))
+-- a isn't at most b
+not_le : (a b : ℕ) → b < a → nat_le a b ≡ false
+not_le a b below = by (nat_le a b) refl
   where
-    not_le : (a b : ℕ) → b < a → nat_le a b ≡ false
-    not_le a b below = by (nat_le a b) refl
-      where
-        by : (c : Bool) → nat_le a b ≡ c → nat_le a b ≡ false
-        by true e = absurd (let most = leb-true a b e in omega (arith, below, most))
-        by false e = e
+    by : (c : Bool) → nat_le a b ≡ c → nat_le a b ≡ false
+    by true e = absurd (let most = leb-true a b e in omega (arith, below, most))
+    by false e = e
 
--- a seal that is noted is none of the world's other matters
-pub noted_client : (w : World) (d : Deployment) (m : model.World Message) (client leaf : ℕ) (s : Statement) → IsWorld w d m → IsWorld w d (hands m (client_at client) leaf s)
-unfolding hands
-noted_client w d m client leaf s stands =
-    record {
-      set = stands.set;
-      server = stands.server;
-      plain = plain_hands m (client_at client) leaf s stands.plain;
-      customers = stands.customers;
-      sent = stands.sent;
-      head = stands.head;
-      waiting = stands.waiting;
-      going = stands.going;
-    }
+-- ---- how many seals there are
+
+-- the server's sealer says it
+pub capacity_here : (w : World) (d : Deployment) → IsSet w d → (pen_of w.sealer).capacity ≡ capacity_of d.seals
+capacity_here w d set = ap (λ (p : Pen). p.capacity) set.sealer ∙ capacity_same d.seals
+
+-- and of the world's own deployment
+pub capacity_own : (w : World) → IsStanding w → (pen_of w.sealer).capacity ≡ capacity_by w.deployment.seals
+capacity_own w so =
+    ap (λ (p : Pen). p.capacity) so.stands.set.sealer ∙ sym (ap (λ (x : Deployment). capacity_by x.seals) so.stands.set.deployment)
+
+-- which are few
+pub few_leaves : (w : World) (used : ℕ) → IsStanding w → used < capacity_by w.deployment.seals → used < 2 ^ 20
+few_leaves w used so below =
+    let same : capacity_by w.deployment.seals ≡ capacity_by so.deployment.seals = ap (λ (x : Deployment). capacity_by x.seals) so.stands.set.deployment in
+    let few = capacity_few so.deployment.seals (choice_of so.deployment so.stands.set.taken) in
+    let one = capacity_same so.deployment.seals in
+    omega (arith, same, few, one, below)
+
+-- ---- the client's seal
 
 -- a client of the world is a party of its seals
-pub client_party : (w : World) (client : ℕ) → IsStanding w → client < w.clients → IsTrue (nat_lt client (keyed_scheme w.seals).clients)
-client_party w client standing below =
-    let set = standing.stands.set in
-    let same : w.clients ≡ (keyed_scheme w.seals).clients = set.clients ∙ sym (ap (λ (s : Scheme). s.clients) set.seals) in
-    lt-ltb client (keyed_scheme w.seals).clients (omega (arith, same, below))
+pub client_party : (w : World) (client : ℕ) → IsStanding w → client < w.deployment.clients → IsTrue (is_party (scheme_in w.seals) (client_at client))
+client_party w client so below =
+    let set = so.stands.set in
+    let same : w.deployment.clients ≡ (scheme_in w.seals).clients = ap (λ (x : Deployment). x.clients) set.deployment ∙ sym (ap (λ (s : Scheme). s.clients) set.seals) in
+    lt-ltb client (scheme_in w.seals).clients (omega (arith, same, below))
+
+-- its leaves are the deployment's
+pub client_leaves : (w : World) (client leaf : ℕ) (pen : Pen) → IsStanding w → pen ≡ pen_in (scheme_in w.seals) (client_at client) → leaf < capacity_by w.deployment.seals → leaf < pen.capacity
+client_leaves w client leaf pen so is below =
+    let set = so.stands.set in
+    let same : pen.capacity ≡ capacity_by so.deployment.seals = ap (λ (p : Pen). p.capacity) is ∙ ap (λ (s : Scheme). (pen_in s (client_at client)).capacity) set.seals in
+    let own : capacity_by w.deployment.seals ≡ capacity_by so.deployment.seals = ap (λ (x : Deployment). capacity_by x.seals) set.deployment in
+    omega (arith, same, own, below)
 
 -- the client's seal is the deployment's
-pub seal_same : (w : World) (d : Deployment) (client used : ℕ) (s : Statement) (pen : Pen) → IsSet w d → pen ≡ keyed_pen (keyed_scheme w.seals) (client_at client) → pen_by pen w.id used s ≡ keyed_seals d (client_at client) used s
-unfolding keyed_seals
-seal_same w d client used s pen set is =
-    (λ i. (is i).seal_of used (sealed_bytes (set.id i) s)) ∙ (λ i. sealed_by (set.seals i) (client_at client) used (sealed_bytes d.id s))
+pub seal_same : (w : World) (d : Deployment) (client leaf : ℕ) (s : Statement) (pen : Pen) → IsSet w d → pen ≡ pen_in (scheme_in w.seals) (client_at client)
+    → pen_by pen w.deployment.id leaf s ≡ statement_seal d (client_at client) leaf s
+seal_same w d client leaf s pen set is =
+    (λ i. (is i).seal_of leaf (sealed_bytes (set.deployment i).id s)) ∙ (λ i. (pen_in (set.seals i) (client_at client)).seal_of leaf (sealed_bytes d.id s))
 
--- the message is the update with the deployment's seal
-pub update_same : (w : World) (d : Deployment) (client used : ℕ) (op copied : Bytes) (copy : Update) (seal : Bytes) (pen : Pen) → IsSet w d → pen ≡ keyed_pen (keyed_scheme w.seals) (client_at client) → copied ≡ op
-    → copy ≡ next_update client used copied → seal ≡ pen_by pen w.id used (ClientUpdate copy) → messages.Update (next_update client used copied) seal ≡ update_message d client used op
-update_same w d client used op copied copy seal pen set is same copy_is sealed =
-    λ i. messages.Update (next_update client used (same i)) ((sealed ∙ (seal_same w d client used (ClientUpdate copy) pen set is ∙ ap (λ (u : Update). keyed_seals d (client_at client) used (ClientUpdate u)) (copy_is ∙ ap (next_update client used) same))) i)
+-- it is as long as it may be
+pub seal_keeps : (w : World) (client leaf : ℕ) (s : Statement) (pen : Pen) (seal : Bytes) → IsStanding w → pen ≡ pen_in (scheme_in w.seals) (client_at client) → seal ≡ pen_by pen w.deployment.id leaf s → KeepsSeal seal
+seal_keeps w client leaf s pen seal so is sealed =
+    subst KeepsSeal (sym (sealed ∙ seal_same w so.deployment client leaf s pen so.stands.set is))
+    (seals_keep so.deployment.seals (scheme_of so.deployment) (client_at client) leaf (sealed_bytes so.deployment.id s) (choice_of so.deployment so.stands.set.taken))
 
--- the message is sent in the world in which the client asked
-abbrev pub IsSentBy : World → World → Message → Type 0
-IsSentBy asked sent message = (d : Deployment) (m : model.World Message) → IsWorld asked d m → IsWorld sent d (sends_to (world_deployment d) m message (dests_of (world_deployment d) scopes.All))
+-- ---- the update
 
-pub submit_stands : (asked sent : World) (d : Deployment) (m : model.World Message) (client used : ℕ) (op : Bytes) (message : Message) → used ≡ (m.customers client).time → used < 1048576
-    → IsWorld asked d (with_customer m client (asks_next (m.customers client))) → message ≡ update_message d client used op → IsSentBy asked sent message → IsWorld sent d (submits (world_deployment d) m client op).world
-submit_stands asked sent d m client used op message is few asks message_is sends =
-    let on = noted_client asked d (with_customer m client (asks_next (m.customers client))) client used (ClientUpdate (next_update client used op)) asks in
-    subst (λ (x : Stepped Message). IsWorld sent d x.world) (sym (submits_sent d m client op used asks.set.taken is few))
-    (subst (λ (v : Message). IsWorld sent d (sends_to (world_deployment d) (asked_world d m client used op) v (dests_of (world_deployment d) scopes.All))) message_is (sends d (asked_world d m client used op) on))
+-- it keeps its ranges
+pub update_keeps : (client used : ℕ) (op : Bytes) (update : Update) → update ≡ next_update client used op → length op ≤ MOST_OPERATION → KeepsUpdate update
+update_keeps client used op update is few = subst KeepsUpdate (sym is) (let time : 1 ≤ used + 1 = omega arith in (time, few))
 
-pub submit_done : (asked : World) (d : Deployment) (m : model.World Message) (client used number : ℕ) (op : Bytes) → used ≡ (m.customers client).time → used < 1048576
-    → IsWorld asked d (with_customer m client (asks_next (m.customers client))) → number ≡ length asked.sent → dones.Sent number ≡ (submits (world_deployment d) m client op).done
-unfolding with_customer
-submit_done asked d m client used number op is few asks number_is =
-    ap dones.Sent (number_is ∙ ap length asks.sent) ∙ ap (λ (x : Stepped Message). x.done) (sym (submits_sent d m client op used asks.set.taken is few))
+-- and so does its message
+pub copy_keeps : (update copy : Update) (seal : Bytes) → copy ≡ update → KeepsUpdate update → KeepsSeal seal → KeepsMessage (messages.Update copy seal)
+copy_keeps update copy seal same keeps long = (subst KeepsUpdate (sym same) keeps, long)
 
-pub submit_too_many : (asked : World) (d : Deployment) (m : model.World Message) (client used : ℕ) (op : Bytes) (message : Message) → used ≡ (m.customers client).time → used < 1048576
-    → IsWorld asked d (with_customer m client (asks_next (m.customers client))) → message ≡ update_message d client used op
-    → ((n : model.World Message) → IsWorld asked d n → HasTooMany (sends_to (world_deployment d) n message (dests_of (world_deployment d) scopes.All)).ended)
-    → HasTooMany (submits (world_deployment d) m client op).world.ended
-submit_too_many asked d m client used op message is few asks message_is ends =
-    let on = noted_client asked d (with_customer m client (asks_next (m.customers client))) client used (ClientUpdate (next_update client used op)) asks in
-    subst (λ (x : Stepped Message). HasTooMany x.world.ended) (sym (submits_sent d m client op used asks.set.taken is few))
-    (subst (λ (v : Message). HasTooMany (sends_to (world_deployment d) (asked_world d m client used op) v (dests_of (world_deployment d) scopes.All)).ended) message_is (ends (asked_world d m client used op) on))
+-- its bytes are those of the update with the deployment's seal
+pub bytes_same : (w : World) (d : Deployment) (client leaf : ℕ) (update copy : Update) (seal bytes : Bytes) → IsSet w d → copy ≡ update → seal ≡ statement_seal d (client_at client) leaf (ClientUpdate update)
+    → bytes ≡ message_spelling w.deployment.id (messages.Update copy seal) → bytes ≡ message_spelling d.id (messages.Update update (statement_seal d (client_at client) leaf (ClientUpdate update)))
+bytes_same w d client leaf update copy seal bytes set same sealed spelled = spelled ∙ (λ i. message_spelling (set.deployment i).id (messages.Update (same i) (sealed i)))
+
+-- the client's next
+pub bytes_next : (d : Deployment) (client used : ℕ) (op : Bytes) (update : Update) (bytes : Bytes) → update ≡ next_update client used op
+    → bytes ≡ message_spelling d.id (messages.Update update (statement_seal d (client_at client) used (ClientUpdate update))) → bytes ≡ message_spelling d.id (update_message d client used op)
+bytes_next d client used op update bytes is spelled = spelled ∙ ap (λ (u : Update). message_spelling d.id (messages.Update u (statement_seal d (client_at client) used (ClientUpdate u)))) is
 
 -- the client of the world asks next
-pub asks_stands : (w asked : World) (d : Deployment) (m : model.World Message) (client : ℕ) (before after : Customer) → IsWorld w d m → before ≡ customer_in w.customers client → after ≡ asks_next before
-    → ((n : model.World Message) → IsWorld w d n → IsWorld asked d (with_customer n client after)) → IsWorld asked d (with_customer m client (asks_next (m.customers client)))
+pub asks_stands : (w asked : World) (d : Deployment) (m : model.World Bytes) (client : ℕ) (before after : Customer) → IsWorld w d m → before ≡ customer_in w.customers client → after ≡ asks_next before
+    → ((n : model.World Bytes) → IsWorld w d n → IsWorld asked d (with_customer n client after)) → IsWorld asked d (with_customer m client (asks_next (m.customers client)))
 asks_stands w asked d m client before after stands was next put =
     subst (λ (k : Customer). IsWorld asked d (with_customer m client k)) (next ∙ ap asks_next (was ∙ stands.customers client)) (put m stands)
+
+-- ---- what the line comes to
+
+-- no seal is left
+pub submit_spent : (w : World) (d : Deployment) (m : model.World Bytes) (client : ℕ) (op : Bytes) (used capacity : ℕ) → IsWorld w d m → used ≡ (m.customers client).time → capacity ≡ (pen_of w.sealer).capacity → capacity ≤ used
+    → CameTo (Ok (dones.SealsSpent used)) w d (submits (world_deployment d) m client op)
+submit_spent w d m client op used capacity stands is count spent =
+    let many : capacity_of d.seals ≤ used = let same = count ∙ capacity_here w d stands.set in omega (arith, same, spent) in
+    subst (CameTo (Ok (dones.SealsSpent used)) w d) (sym (submits_by d m client op used true is (le-leb (capacity_of d.seals) used many))) (stands, refl)
+
+-- the update is sent
+module _ (w asked noted : World) (d : Deployment) (m : model.World Bytes) (client : ℕ) (op : Bytes) (used capacity : ℕ) (bytes : Bytes) (stands : IsWorld w d m) (is : used ≡ (m.customers client).time)
+    (count : capacity ≡ (pen_of w.sealer).capacity) (left : used < capacity) (asks : IsWorld asked d (with_customer m client (asks_next (m.customers client))))
+    (notes : (n : model.World Bytes) (leaf : ℕ) → IsWorld asked d n → IsWorld noted d (hands n (client_at client) leaf (ClientUpdate (next_update client used op))))
+    (spelled : bytes ≡ message_spelling d.id (update_message d client used op)) where
+  -- the definitions
+  submits_is : submits (world_deployment d) m client op ≡ submit_sent d m client used op
+  submits_is = submits_by d m client op used false is (not_le (capacity_of d.seals) used (let same = count ∙ capacity_here w d stands.set in omega (arith, same, left)))
+
+  -- the world before it is sent
+  pub asked_stands : IsWorld noted d (asked_world m client used op)
+  asked_stands = notes (with_customer m client (asks_next (m.customers client))) used asks
+
+  -- what is sent
+  abbrev sent_of : Bytes → model.World Bytes
+  sent_of x = sends_to (world_deployment d) (asked_world m client used op) x (dests_of (world_deployment d) scopes.All)
+
+  pub submit_came : (new : World) (number : ℕ) → IsWorld new d (sent_of bytes) → number ≡ length noted.sent → CameTo (Ok (dones.Sent number)) new d (submits (world_deployment d) m client op)
+  unfolding hands with_customer
+  submit_came new number sent number_is =
+      subst (CameTo (Ok (dones.Sent number)) new d) (sym submits_is)
+      (subst (λ (x : Bytes). IsWorld new d (sent_of x)) spelled sent, ap dones.Sent (number_is ∙ ap length asked_stands.sending.sent))
+
+  pub submit_ended : (new : World) (e : WorldError) → Ends e (sent_of bytes).ended → CameTo (Err e) new d (submits (world_deployment d) m client op)
+  submit_ended new e ended = subst (CameTo (Err e) new d) (sym submits_is) (subst (λ (x : Bytes). Ends e (sent_of x).ended) spelled ended)

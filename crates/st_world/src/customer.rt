@@ -1,22 +1,24 @@
-ghost use Rattle.std.specs.Prelude.{◌≡◌, ◌≢◌, ℕ, ◌<◌, nat_eq, Err, IfOk, OnOk, IsOkUnless};
+ghost use Rattle.std.specs.Prelude.{◌≡◌, ◌≢◌, ℕ, nat_eq, IfOk, OnOk, IsOkUnless};
 ghost use Rattle.st_words.specs.declared.deployment.Deployment.{Deployment};
-ghost use Rattle.st_message.specs.declared.message.Message.{Message};
-ghost use Rattle.st_schedule.specs.declared.done.Done.TheVariants as dones;
+ghost use Rattle.st_protocol.specs.Words.{Bytes};
+ghost use Rattle.st_protocol.specs.Duty.{Clean};
 ghost use Rattle.st_protocol.specs.World as model;
-ghost use Rattle.st_protocol.specs.World.{with_customer, client_takes, read_known};
+ghost use Rattle.st_protocol.specs.World.{bad_seal, with_customer, client_takes};
 ghost use Rattle.st_client.specs.Customers.{customer_of};
 ghost use Rattle.st_client.specs.Replying.{reply_customer, reply_outcome};
-ghost use Rattle.st_server.specs.Deployed.{world_deployment};
-ghost use Rattle.st_server.specs.Serving.{knows_sender_of};
+ghost use Rattle.st_deployment.specs.Deployed.{world_deployment};
 ghost use Rattle.st_world.specs.declared.error.WorldError.TheVariants as errors;
-ghost use Rattle.st_world.specs.Standing.{IsWorld};
-ghost use Rattle.st_world.specs.Waiting.{customer_in};
+ghost use Rattle.st_world.specs.Customers.{customer_in};
+ghost use Rattle.st_world.specs.Serving.{IsFound};
+ghost use Rattle.st_world.specs.Standing.{IsSet, IsWorld, IsStanding, CameTo};
 
 use crate::error::WorldError;
 use crate::world::World;
 use st_client::Client;
 use st_fields::{Bytes, Shared};
 use st_message::{Message, Outcome, Reason};
+use st_reading::first_bad_seal;
+use st_schedule::Done;
 use st_words::{ClientId, Number, ServerId, Statement};
 use std::alloc::Global;
 
@@ -42,7 +44,7 @@ impl World {
         client: ClientId,
         customer: Client,
     ) -> Result<(), WorldError>
-        ensures put { OnOk result ((d : Deployment) (m : model.World Message) → IsWorld self.old d m → IsWorld self.new d (with_customer m client.0 (customer_of customer))) }
+        ensures put { OnOk result ((d : Deployment) (m : model.World Bytes) → IsWorld self.old d m → IsWorld self.new d (with_customer m client.0 (customer_of customer))) }
         ensures memory { IsOkUnless result errors.OutOfMemory }
     {
         let customer = Shared::new(alloc, customer)?;
@@ -50,22 +52,19 @@ impl World {
         Ok(())
     }
 
-    /// Delivers a message to a client: it takes a Reply of its own.
-    pub fn answer(
+    /// Delivers to a client a message that it read of bytes: it takes a Reply of its own whose seal checks.
+    pub(crate) fn answer(
         &mut self,
         alloc: Global,
         client: ClientId,
-        wire: &Message,
-    ) -> Result<Outcome, WorldError>
-        ensures taken { OnOk result ((d : Deployment) (m : model.World Message) → IsWorld self.old d m → IsWorld self.new d (client_takes (world_deployment d) m client.0 (read_known (world_deployment d) wire.now)).world) }
-        ensures outcome { IfOk result (λ outcome. (d : Deployment) (m : model.World Message) → IsWorld self.old d m → dones.Outcome outcome ≡ (client_takes (world_deployment d) m client.0 (read_known (world_deployment d) wire.now)).done) }
-        ensures memory { IsOkUnless result errors.OutOfMemory }
+        message: &Message,
+    ) -> Result<Done, WorldError>
+        requires stands { IsStanding self.old }
+        requires found { IsFound self.old.deployment.id message.now }
+        ensures { (d : Deployment) (m : model.World Bytes) → IsWorld self.old d m → CameTo result self.new d (client_takes (world_deployment d) m client.0 (Clean message.now)) }
     {
-        if !knows_sender(wire) {
-            return Ok(Outcome::Ignored(Reason::Unknown));
-        }
-        let Message::Reply { statement, signed } = wire else {
-            return Ok(Outcome::Ignored(Reason::NotMine));
+        let Message::Reply { statement, signed } = message else {
+            return Ok(Done::Outcome(Outcome::Ignored(Reason::NotMine)));
         };
         let Statement::Reply {
             site,
@@ -75,17 +74,35 @@ impl World {
             result: replied,
         } = statement
         else {
-            return Ok(Outcome::Ignored(Reason::NotMine));
+            return Ok(Done::Outcome(Outcome::Ignored(Reason::NotMine)));
         };
         if !is_own(client, *to) {
-            return Ok(Outcome::Ignored(Reason::NotMine));
+            return Ok(Done::Outcome(Outcome::Ignored(Reason::NotMine)));
         }
-        let server = ServerId {
-            site: site.0,
-            index: signed.index,
-        };
-        let outcome = self.take_reply(alloc, client, server, *time, *number, replied)?;
-        Ok(outcome)
+        match self.bad_seal(alloc, message)? {
+            Some(place) => Ok(Done::Outcome(Outcome::Ignored(Reason::BadSeal { place }))),
+            None => {
+                let server = ServerId {
+                    site: site.0,
+                    index: signed.index,
+                };
+                let outcome = self.take_reply(alloc, client, server, *time, *number, replied)?;
+                Ok(Done::Outcome(outcome))
+            }
+        }
+    }
+
+    // The place of the first seal of a message that doesn't check.
+    fn bad_seal(&self, alloc: Global, message: &Message) -> Result<Option<usize>, WorldError>
+        requires stands { IsStanding self.now }
+        requires found { IsFound self.now.deployment.id message.now }
+        ensures place { IfOk result (λ place. (d : Deployment) → IsSet self.now d → place ≡ bad_seal (world_deployment d) message.now) }
+        ensures memory { IsOkUnless result errors.OutOfMemory }
+    {
+        match first_bad_seal(alloc, &self.seals, &self.deployment, message) {
+            Ok(place) => Ok(place),
+            Err(_) => Err(WorldError::OutOfMemory),
+        }
     }
 
     // Takes a server's Reply to a client's update of a time.
@@ -98,8 +115,8 @@ impl World {
         number: Number,
         replied: &Bytes,
     ) -> Result<Outcome, WorldError>
-        ensures taken { OnOk result ((d : Deployment) (m : model.World Message) → IsWorld self.old d m → IsWorld self.new d (with_customer m client.0 (reply_customer 0 (m.customers client.0) server.site server.index time (record { number = number.0; result = replied.now })))) }
-        ensures outcome { IfOk result (λ outcome. (d : Deployment) (m : model.World Message) → IsWorld self.old d m → outcome ≡ reply_outcome (m.customers client.0) server.site server.index time) }
+        ensures taken { OnOk result ((d : Deployment) (m : model.World Bytes) → IsWorld self.old d m → IsWorld self.new d (with_customer m client.0 (reply_customer 0 (m.customers client.0) server.site server.index time (record { number = number.0; result = replied.now })))) }
+        ensures outcome { IfOk result (λ outcome. (d : Deployment) (m : model.World Bytes) → IsWorld self.old d m → outcome ≡ reply_outcome (m.customers client.0) server.site server.index time) }
         ensures memory { IsOkUnless result errors.OutOfMemory }
     {
         let mut customer = self.customer(alloc, client)?;
@@ -114,19 +131,4 @@ fn is_own(client: ClientId, to: ClientId) -> bool
     ensures { result ≡ nat_eq client.0 to.0 }
 {
     client.0 == to.0
-}
-
-// Whether the server whose share a message is, or the site whose Accept certificate it is, is the one
-// that there is.
-fn knows_sender(wire: &Message) -> bool
-    ensures { result ≡ knows_sender_of 1 0 wire.now }
-{
-    match wire {
-        Message::Share { signed, .. } => signed.index < 1,
-        Message::Certificate {
-            statement: Statement::Accept { site, .. },
-            ..
-        } => site.0 < 1,
-        _ => true,
-    }
 }

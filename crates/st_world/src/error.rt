@@ -8,8 +8,13 @@ use st_fields::WordsError;
 pub enum WorldError {
     /// A line names what does not exist.
     BadReference,
+    /// Bytes from outside hold a seal that checks for a correct party and that it never made: the offset of that
+    /// seal's bytes in the message.
+    Forged { place: usize },
     /// More messages would be sent than a world has room for.
     TooMany,
+    /// More bytes would be sent than a world has room for.
+    TooMuch,
     /// Memory was refused.
     OutOfMemory,
 }

@@ -5,8 +5,8 @@ mod customer;
 mod deliver;
 mod error;
 mod flow;
+mod forged;
 mod new;
-mod pair;
 mod send;
 mod serve;
 mod step;
@@ -15,5 +15,4 @@ mod world;
 
 pub use error::WorldError;
 pub use flow::Flow;
-pub use pair::Pair;
 pub use world::World;

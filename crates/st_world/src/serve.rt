@@ -1,46 +1,51 @@
-ghost use Rattle.std.specs.Prelude.{◌≡◌, ◌≢◌, ℕ, Err, IfOk, OnOk};
+ghost use Rattle.std.specs.Prelude.{◌≡◌, ◌≢◌, Err, IfOk, IsOkUnless};
+ghost use Rattle.std.specs.List.{All};
 ghost use Rattle.st_words.specs.declared.deployment.Deployment.{Deployment};
-ghost use Rattle.st_message.specs.declared.message.Message.{Message};
-ghost use Rattle.st_schedule.specs.declared.done.Done.TheVariants as dones;
-ghost use Rattle.st_protocol.specs.Duty.{Deliver};
+ghost use Rattle.st_protocol.specs.Words.{Bytes};
+ghost use Rattle.st_protocol.specs.Questions.{questions};
+ghost use Rattle.st_protocol.specs.Duty.{Deliver, Clean};
 ghost use Rattle.st_protocol.specs.World as model;
-ghost use Rattle.st_protocol.specs.World.{serves};
-ghost use Rattle.st_server.specs.Deployed.{world_deployment};
+ghost use Rattle.st_protocol.specs.World.{pen_at, reads, seat_of, serves};
+ghost use Rattle.st_ranges.specs.Ranges.{MessageInRange, OutputInRange};
+ghost use Rattle.st_server.specs.Serving.{plan_by_message};
+ghost use Rattle.st_deployment.specs.Deployed.{world_deployment};
 ghost use Rattle.st_world.specs.declared.error.WorldError.TheVariants as errors;
-ghost use Rattle.st_world.specs.Standing.{IsWorld, IsStanding, HasTooMany};
-ghost use Rattle.st_world.specs.Serving.{IsPlannedFor, IsSettled};
+ghost use Rattle.st_world.specs.Standing.{IsWorld, IsStanding, CameTo};
+ghost use Rattle.st_world.specs.Serving.{IsSettled};
 
 use crate::error::WorldError;
 use crate::world::World;
-use st_message::{Message, Outcome, Plan};
+use st_message::{Message, Plan};
+use st_schedule::Done;
 use st_server::Planned;
 use std::alloc::Global;
 
 impl World {
-    /// Delivers a message to the server: it does its duty, and its messages are handed out.
-    pub fn serve(&mut self, alloc: Global, wire: &Message) -> Result<Outcome, WorldError>
-        requires { IsStanding self.old }
-        ensures served { OnOk result ((d : Deployment) (m : model.World Message) → IsWorld self.old d m → IsWorld self.new d (serves (world_deployment d) m 0 0 (Deliver wire.now)).world) }
-        ensures outcome { IfOk result (λ outcome. (d : Deployment) (m : model.World Message) → IsWorld self.old d m → dones.Outcome outcome ≡ (serves (world_deployment d) m 0 0 (Deliver wire.now)).done) }
-        ensures many { result ≡ Err errors.TooMany → (d : Deployment) (m : model.World Message) → IsWorld self.old d m → HasTooMany (serves (world_deployment d) m 0 0 (Deliver wire.now)).world.ended }
-        ensures named { result ≢ Err errors.BadReference }
+    /// Delivers to the server what it read of bytes: it does its duty, and its messages are handed out.
+    pub(crate) fn serve(&mut self, alloc: Global, message: &Message) -> Result<Done, WorldError>
+        requires stands { IsStanding self.old }
+        requires inside { MessageInRange message.now }
+        ensures { (d : Deployment) (m : model.World Bytes) (wire : Bytes) → IsWorld self.old d m → reads (world_deployment d) wire ≡ Clean message.now → CameTo result self.new d (serves (world_deployment d) m 0 0 (Deliver wire)) }
     {
-        let plan = self.act(alloc, wire)?;
+        let plan = self.act(alloc, message)?;
         match self.hand_out(alloc, &plan.outputs) {
-            Ok(()) => Ok(plan.outcome),
+            Ok(()) => Ok(Done::Outcome(plan.outcome)),
             Err(error) => Err(error),
         }
     }
 
     // The server's plan, which it settles; its messages aren't handed out yet.
-    fn act(&mut self, alloc: Global, wire: &Message) -> Result<Plan, WorldError>
-        requires { IsStanding self.old }
-        ensures plan { IfOk result (λ plan. (d : Deployment) (m : model.World Message) → IsWorld self.old d m → IsPlannedFor d m wire.now plan) }
-        ensures settled { IfOk result (λ plan. (d : Deployment) (m : model.World Message) → IsWorld self.old d m → IsSettled self.new d m plan) }
-        ensures kinds { result ≢ Err errors.BadReference }
-        ensures few { result ≢ Err errors.TooMany }
+    fn act(&mut self, alloc: Global, message: &Message) -> Result<Plan, WorldError>
+        requires stands { IsStanding self.old }
+        requires inside { MessageInRange message.now }
+        ensures plan { IfOk result (λ plan. (d : Deployment) (m : model.World Bytes) → IsWorld self.old d m → plan ≡ plan_by_message (seat_of (world_deployment d) 0 0) (pen_at (world_deployment d) 0 0) (questions (seat_of (world_deployment d) 0 0) (m.nodes 0 0).bodies (m.nodes 0 0).heard) message.now) }
+        ensures settled { IfOk result (λ plan. (d : Deployment) (m : model.World Bytes) → IsWorld self.old d m → IsSettled self.new d m plan) }
+        ensures range { IfOk result (λ plan. All OutputInRange plan.outputs) }
+        ensures memory { IsOkUnless result errors.OutOfMemory }
     {
-        let Planned { plan, next } = self.server.plan(alloc, &mut self.sealer, self.id, wire)?;
+        let Planned { plan, next } = self
+            .server
+            .plan(alloc, &mut self.sealer, self.deployment.id, message)?;
         self.server.settle(alloc, &plan.changes, next)?;
         Ok(plan)
     }

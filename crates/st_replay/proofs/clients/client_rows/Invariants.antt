@@ -2,7 +2,7 @@
 use Rattle.std.proofs.Common.{◌≡◌, [], ◌∷◌}
 use Rattle.st_protocol.specs.Step.{all_below}
 use Rattle.st_protocol.specs.Report.{client_row}
-use Rattle.st_world.specs.Waiting.{customer_in}
+use Rattle.st_world.specs.Customers.{customer_in}
 use Rattle.st_replay.proofs.clients.client_rows.Given as goal
 
 abbrev pub invariant-loop-client : goal.invariant-loop-client

@@ -10,5 +10,5 @@ returns-clause-rows c =
     let d = c.args.d.now in
     let row = c.in_ok-server_row.field-0 in
     let servers = c.in_ok-push.ensures.ok ∙ ap (λ (rows : List ServerRow). rows ++ row ∷ []) c.new-servers.ensures in
-    (λ i. record { header = record { id = d.id; sites = d.sites; f = d.f; clients = d.clients }; done = c.args.replay.done; servers = servers i; clients = c.in_ok-clients.clients; sent = c.len-sent.ensures i; undelivered = c.undelivered-undelivered.ensures i })
+    (λ i. record { header = record { id = d.id; sites = d.sites; f = d.f; clients = d.clients }; done = c.args.replay.done; servers = servers i; clients = c.in_ok-clients.clients; sent = c.len-sent.ensures i; undelivered = c.len-undelivered.ensures i })
     ∙ rows_are c.args.replay d lines row c.in_ok-clients.clients (λ records heard stands. c.in_ok-server_row.ensures.row records heard stands) c.in_ok-clients.ensures.rows so

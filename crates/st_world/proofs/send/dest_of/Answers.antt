@@ -2,8 +2,8 @@
 use Rattle.std.proofs.Common.{◌∙◌, ap}
 use Rattle.st_message.specs.declared.event.Scope.{Scope}
 use Rattle.st_protocol.specs.World.{dests_of}
-use Rattle.st_server.specs.Deployed.{world_deployment}
-use Rattle.st_world.proofs.SendLaws.{dest_all, dest_site}
+use Rattle.st_deployment.specs.Deployed.{world_deployment}
+use Rattle.st_deployment.proofs.SetLaws.{dest_all, dest_site}
 use Rattle.st_world.proofs.send.dest_of.Goals as goal
 
 pub returns-in-All : goal.returns-in-All

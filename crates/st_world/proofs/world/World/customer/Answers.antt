@@ -1,7 +1,7 @@
 -- The client that is there, or a new one.
 use Rattle.std.proofs.Common.{◌∙◌, ap}
 use Rattle.st_client.specs.Customers.{customer_of}
-use Rattle.st_world.specs.Waiting.{customer_by, customer_in}
+use Rattle.st_world.specs.Customers.{customer_by, customer_in}
 use Rattle.st_world.proofs.world.World.customer.Goals as goal
 
 pub returns-in_ok-copy-in-Some-clause-equal : goal.returns-in_ok-copy-in-Some-clause-equal

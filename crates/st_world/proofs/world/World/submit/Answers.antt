@@ -1,49 +1,70 @@
 -- The client's update is sent, or its seals are spent.
-use Rattle.std.proofs.Common.{◌≡◌, ◌∙◌, ap, sym, subst, Err, arith}
-use Rattle.st_message.specs.declared.message.Message.{Message}
-use Rattle.st_protocol.specs.World.{Customer, Stepped}
+use Rattle.std.proofs.Common.{◌≡◌, ◌∙◌, ap, sym, subst, ℕ, ◌<◌, arith}
+use Rattle.st_words.specs.declared.value.Update.{Update}
+use Rattle.st_words.specs.declared.statement.Statement.TheVariants.{ClientUpdate}
+use Rattle.st_hss_seal.specs.Sealers.{pen_of}
+use Rattle.st_protocol.specs.Words.{Bytes, client_at}
+use Rattle.st_protocol.specs.World as model
+use Rattle.st_protocol.specs.World.{Customer, hands}
 use Rattle.st_client.specs.Customers.{customer_of}
-use Rattle.st_world.specs.declared.error.WorldError.TheVariants as errors
 use Rattle.st_world.specs.Standing.{IsWorld}
-use Rattle.st_world.proofs.SubmitLaws.{submits_spent, submit_stands, submit_done, submit_too_many, asks_stands}
+use Rattle.st_world.proofs.SubmitLaws.{asked_world, asked_stands, capacity_own, few_leaves, submit_spent, submit_came, submit_ended, update_keeps, bytes_next, asks_stands}
 use Rattle.st_world.proofs.world.World.submit.Goals as goal
 
-pub returns-then-used-ge-CAPACITY-clause-submitted : goal.returns-then-used-ge-CAPACITY-clause-submitted
-returns-then-used-ge-CAPACITY-clause-submitted c =
+pub returns-then-used-capacity : goal.returns-then-used-capacity
+returns-then-used-capacity c =
     λ d m stands.
     let is = c.time-used.ensures ∙ ap (λ (k : Customer). k.time) (c.in_ok-customer.ensures.equal ∙ stands.customers c.args.client.0) in
-    subst (λ (x : Stepped Message). IsWorld c.args.self.now d x.world)
-    (sym (submits_spent d m c.args.client.0 c.args.op.now c.time-used.result stands.set.taken is (omega (arith, c.if-used-ge-CAPACITY.true)))) stands
+    submit_spent c.args.self.now d m c.args.client.0 c.args.op.now c.time-used.result c.capacity-capacity.result stands is c.capacity-capacity.ensures (omega (arith, c.if-used-capacity.true))
 
-pub returns-then-used-ge-CAPACITY-clause-done : goal.returns-then-used-ge-CAPACITY-clause-done
-returns-then-used-ge-CAPACITY-clause-done c =
-    λ d m stands.
-    let is = c.time-used.ensures ∙ ap (λ (k : Customer). k.time) (c.in_ok-customer.ensures.equal ∙ stands.customers c.args.client.0) in
-    ap (λ (x : Stepped Message). x.done) (sym (submits_spent d m c.args.client.0 c.args.op.now c.time-used.result stands.set.taken is (omega (arith, c.if-used-ge-CAPACITY.true))))
+pub sealed_update-requires-clause-leaf : goal.sealed_update-requires-clause-leaf
+sealed_update-requires-clause-leaf c = let count = c.capacity-capacity.ensures ∙ capacity_own c.args.self.now c.requires.stands in omega (arith, count, c.if-used-capacity.false)
 
-pub returns-in-Ok-clause-submitted : goal.returns-in-Ok-clause-submitted
-returns-in-Ok-clause-submitted c =
+pub next_update-requires : goal.next_update-requires
+next_update-requires c =
+    few_leaves c.args.self.now c.time-used.result c.requires.stands (let count = c.capacity-capacity.ensures ∙ capacity_own c.args.self.now c.requires.stands in omega (arith, count, c.if-used-capacity.false))
+
+pub sealed_update-requires-clause-update : goal.sealed_update-requires-clause-update
+sealed_update-requires-clause-update c = update_keeps c.args.client.0 c.time-used.result c.args.op.now c.in_ok-update.update c.in_ok-update.ensures.update c.requires.op
+
+pub note_update-requires : goal.note_update-requires
+note_update-requires c = update_keeps c.args.client.0 c.time-used.result c.args.op.now c.in_ok-update.update c.in_ok-update.ensures.update c.requires.op
+
+pub send-requires : goal.send-requires
+send-requires c =
+    let so = c.requires.stands in
+    let d = so.deployment in
+    let m = so.model in
+    let stands = so.stands in
+    let was = c.in_ok-customer.ensures.equal in
+    let is = c.time-used.ensures ∙ ap (λ (k : Customer). k.time) (was ∙ stands.customers c.args.client.0) in
+    let asks = asks_stands c.args.self.now c.put_customer.new.self d m c.args.client.0 (customer_of c.in_ok-customer.customer) _ stands was c.submit.ensures (λ n. c.in_ok-put_customer.ensures.put d n) in
+    let notes = λ (n : model.World Bytes) (leaf : ℕ) (w : IsWorld c.put_customer.new.self d n).
+    subst (λ (u : Update). IsWorld c.note_update.new.self d (hands n (client_at c.args.client.0) leaf (ClientUpdate u))) c.in_ok-update.ensures.update (c.in_ok-note_update.ensures.noted d n leaf w) in
+    let left : c.time-used.result < c.capacity-capacity.result = omega (arith, c.if-used-capacity.false) in
+    let spelled = bytes_next d c.args.client.0 c.time-used.result c.args.op.now c.in_ok-update.update c.in_ok-bytes.bytes c.in_ok-update.ensures.update (c.in_ok-bytes.ensures.bytes d stands.set) in
+    record { deployment = d; model = asked_world m c.args.client.0 c.time-used.result c.args.op.now; stands = asked_stands c.args.self.now c.put_customer.new.self c.note_update.new.self d m c.args.client.0 c.args.op.now c.time-used.result c.capacity-capacity.result c.in_ok-bytes.bytes stands is c.capacity-capacity.ensures left asks notes spelled }
+
+pub returns-in-Ok : goal.returns-in-Ok
+returns-in-Ok c =
     λ d m stands.
     let was = c.in_ok-customer.ensures.equal in
     let is = c.time-used.ensures ∙ ap (λ (k : Customer). k.time) (was ∙ stands.customers c.args.client.0) in
     let asks = asks_stands c.args.self.now c.put_customer.new.self d m c.args.client.0 (customer_of c.in_ok-customer.customer) _ stands was c.submit.ensures (λ n. c.in_ok-put_customer.ensures.put d n) in
-    submit_stands c.put_customer.new.self c.send.new.self d m c.args.client.0 c.time-used.result c.args.op.now _ is (omega (arith, c.if-used-ge-CAPACITY.false)) asks
-    (c.in_ok-message-2.ensures.equal ∙ c.in_ok-message.ensures.sealed d stands.set) c.in-Ok.ensures.sent
+    let notes = λ (n : model.World Bytes) (leaf : ℕ) (w : IsWorld c.put_customer.new.self d n).
+    subst (λ (u : Update). IsWorld c.note_update.new.self d (hands n (client_at c.args.client.0) leaf (ClientUpdate u))) c.in_ok-update.ensures.update (c.in_ok-note_update.ensures.noted d n leaf w) in
+    let left : c.time-used.result < c.capacity-capacity.result = omega (arith, c.if-used-capacity.false) in
+    let spelled = bytes_next d c.args.client.0 c.time-used.result c.args.op.now c.in_ok-update.update c.in_ok-bytes.bytes c.in_ok-update.ensures.update (c.in_ok-bytes.ensures.bytes d stands.set) in
+    submit_came c.args.self.now c.put_customer.new.self c.note_update.new.self d m c.args.client.0 c.args.op.now c.time-used.result c.capacity-capacity.result c.in_ok-bytes.bytes stands is c.capacity-capacity.ensures left asks notes spelled c.send.new.self c.in-Ok.number (c.in-Ok.ensures.sent d (asked_world m c.args.client.0 c.time-used.result c.args.op.now) (asked_stands c.args.self.now c.put_customer.new.self c.note_update.new.self d m c.args.client.0 c.args.op.now c.time-used.result c.capacity-capacity.result c.in_ok-bytes.bytes stands is c.capacity-capacity.ensures left asks notes spelled)) c.in-Ok.ensures.number
 
-pub returns-in-Ok-clause-done : goal.returns-in-Ok-clause-done
-returns-in-Ok-clause-done c =
+pub returns-in-Err : goal.returns-in-Err
+returns-in-Err c =
     λ d m stands.
     let was = c.in_ok-customer.ensures.equal in
     let is = c.time-used.ensures ∙ ap (λ (k : Customer). k.time) (was ∙ stands.customers c.args.client.0) in
     let asks = asks_stands c.args.self.now c.put_customer.new.self d m c.args.client.0 (customer_of c.in_ok-customer.customer) _ stands was c.submit.ensures (λ n. c.in_ok-put_customer.ensures.put d n) in
-    submit_done c.put_customer.new.self d m c.args.client.0 c.time-used.result c.in-Ok.number c.args.op.now is (omega (arith, c.if-used-ge-CAPACITY.false)) asks c.in-Ok.ensures.number
-
-pub returns-in-Err-clause-many : goal.returns-in-Err-clause-many
-returns-in-Err-clause-many c =
-    λ is_many d m stands.
-    let same : c.in-Err.error ≡ errors.TooMany = cc in
-    let was = c.in_ok-customer.ensures.equal in
-    let is = c.time-used.ensures ∙ ap (λ (k : Customer). k.time) (was ∙ stands.customers c.args.client.0) in
-    let asks = asks_stands c.args.self.now c.put_customer.new.self d m c.args.client.0 (customer_of c.in_ok-customer.customer) _ stands was c.submit.ensures (λ n. c.in_ok-put_customer.ensures.put d n) in
-    submit_too_many c.put_customer.new.self d m c.args.client.0 c.time-used.result c.args.op.now _ is (omega (arith, c.if-used-ge-CAPACITY.false)) asks
-    (c.in_ok-message-2.ensures.equal ∙ c.in_ok-message.ensures.sealed d stands.set) (c.in-Err.ensures.many (ap Err same) d)
+    let notes = λ (n : model.World Bytes) (leaf : ℕ) (w : IsWorld c.put_customer.new.self d n).
+    subst (λ (u : Update). IsWorld c.note_update.new.self d (hands n (client_at c.args.client.0) leaf (ClientUpdate u))) c.in_ok-update.ensures.update (c.in_ok-note_update.ensures.noted d n leaf w) in
+    let left : c.time-used.result < c.capacity-capacity.result = omega (arith, c.if-used-capacity.false) in
+    let spelled = bytes_next d c.args.client.0 c.time-used.result c.args.op.now c.in_ok-update.update c.in_ok-bytes.bytes c.in_ok-update.ensures.update (c.in_ok-bytes.ensures.bytes d stands.set) in
+    submit_ended c.args.self.now c.put_customer.new.self c.note_update.new.self d m c.args.client.0 c.args.op.now c.time-used.result c.capacity-capacity.result c.in_ok-bytes.bytes stands is c.capacity-capacity.ensures left asks notes spelled c.send.new.self c.in-Err.error (c.in-Err.ensures.sent d (asked_world m c.args.client.0 c.time-used.result c.args.op.now) (asked_stands c.args.self.now c.put_customer.new.self c.note_update.new.self d m c.args.client.0 c.args.op.now c.time-used.result c.capacity-capacity.result c.in_ok-bytes.bytes stands is c.capacity-capacity.ensures left asks notes spelled))
