@@ -1,5 +1,5 @@
 -- A client is changed.
-use Rattle.std.proofs.Common.{◌≡◌, ◌≢◌, ◌∙◌, ap, sym, subst, ℕ, Bool, true, false, cond, nat_eq, Option, Some, None, Result, Ok, List, refl}
+use Rattle.std.proofs.Common.{◌≡◌, ◌≢◌, ◌∙◌, ap, sym, subst, ℕ, Bool, true, false, cond, nat_eq, Option, Some, None, Ok, List, refl}
 use Rattle.std.proofs.lemmas.Bool.{eqb-true, eqb-false}
 use Rattle.st_words.specs.declared.deployment.Deployment.{Deployment}
 use Rattle.st_words.specs.declared.ids.SiteId.{SiteId}
@@ -7,10 +7,8 @@ use Rattle.st_words.specs.declared.ids.ClientId.{ClientId}
 use Rattle.st_words.specs.declared.ids.Number.{Number}
 use Rattle.st_words.specs.declared.statement.Statement.{Statement}
 use Rattle.st_words.specs.declared.statement.Statement.TheVariants.{Prepare, Proposal, Accept, LocalVc, GlobalVc, LocalReport, GlobalReport, LocalUnion, GlobalUnion, Reply, ClientUpdate}
-use Rattle.st_words.specs.Spelling.{statement_spelling}
-use Rattle.st_seal.specs.Pen.{Checks}
 use Rattle.st_seal.specs.declared.quorum.Signed.{Signed}
-use Rattle.st_hss_seal.specs.Sealing.{holds, holds_in}
+use Rattle.st_hss_seal.specs.Sealing.{holds_in}
 use Rattle.st_hss_seal.specs.Sealers.{scheme_in}
 use Rattle.st_message.specs.declared.event.Outcome.{Outcome}
 use Rattle.st_message.specs.declared.event.Outcome.TheVariants.{Ignored}
@@ -61,7 +59,7 @@ put_stands w customers d m client customer stands sets =
     let was : IsSent w d m = stands.sending in
     let set : IsSet w d = stands.set in
     record {
-      set = record { taken = set.taken; deployment = set.deployment; seals = set.seals; sealer = set.sealer; seat = set.seat };
+      set = record { taken = set.taken; deployment = set.deployment; seals = set.seals; sealer = set.sealer; sealers = set.sealers; seat = set.seat };
       server = stands.server;
       kept = stands.kept;
       plain = plain_with_customer m client (customer_of customer) stands.plain;

@@ -1,10 +1,9 @@
 -- A delivery, by its destination.
-use Rattle.std.proofs.Common.{◌≡◌, ◌∙◌, ap, sym, subst, zero, suc, [], ◌∷◌, ℕ, ◌<◌, ◌≤◌, ◌&&◌, nat_eq, Bool, true, false, length, Option, Some, None, Result, Ok, Err, List, IfOk, slice_get, refl, arith}
+use Rattle.std.proofs.Common.{◌≡◌, ◌∙◌, ap, sym, subst, zero, suc, [], ◌∷◌, ℕ, ◌<◌, ◌≤◌, ◌&&◌, nat_eq, true, false, length, Some, None, Result, Ok, Err, List, IfOk, slice_get, refl, arith}
 use Rattle.std.proofs.lemmas.Bool.{and_parts, eqb-true}
 use Rattle.st_words.specs.declared.deployment.Deployment.{Deployment}
 use Rattle.st_words.specs.declared.ids.ServerId.{ServerId}
 use Rattle.st_words.specs.declared.ids.ClientId.{ClientId}
-use Rattle.st_seal.specs.Scheme.{Scheme, scheme_of}
 use Rattle.st_hss_seal.specs.Sealing.{holds, holds_in}
 use Rattle.st_hss_seal.specs.Sealers.{scheme_in}
 use Rattle.st_message.specs.declared.event.Outcome.TheVariants.{Ignored}
@@ -16,7 +15,6 @@ use Rattle.st_schedule.specs.declared.line.Dest.{Dest}
 use Rattle.st_schedule.specs.declared.line.Dest.TheVariants as dests
 use Rattle.st_schedule.specs.declared.done.Done.{Done}
 use Rattle.st_schedule.specs.declared.done.Done.TheVariants as dones
-use Rattle.st_seal.specs.Pen.{Checks}
 use Rattle.st_protocol.specs.Words.{Bytes}
 use Rattle.st_protocol.specs.Duty.{Deliver, Reading, Faulty, Clean}
 use Rattle.st_protocol.specs.World as model
@@ -27,7 +25,6 @@ use Rattle.st_live.specs.Service.{list_serve}
 use Rattle.st_server.specs.Deployed.{runs_no_code}
 use Rattle.st_flows.proofs.ServeLaws.{serves_faulty}
 use Rattle.st_ranges.specs.Ranges.{MessageInRange}
-use Rattle.st_config.specs.Taken.{IsTaken}
 use Rattle.st_deployment.specs.Deployed.{world_deployment}
 use Rattle.st_deployment.proofs.SetLaws.{others_faulty}
 use Rattle.st_world.specs.declared.world.World.{World}

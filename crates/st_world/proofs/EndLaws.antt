@@ -1,5 +1,5 @@
 -- What an error says of a world's end.
-use Rattle.std.proofs.Common.{◌≡◌, ap, Option, Some, Result, Ok, Err, OnOk}
+use Rattle.std.proofs.Common.{◌≡◌, Option, Some, Result, Ok, Err, OnOk}
 use Rattle.st_words.specs.declared.deployment.Deployment.{Deployment}
 use Rattle.st_schedule.specs.declared.done.Done.{Done}
 use Rattle.st_protocol.specs.Words.{Bytes}

@@ -1,5 +1,5 @@
 -- A flow, delivery by delivery.
-use Rattle.std.proofs.Common.{◌≡◌, ◌≢◌, ◌∙◌, ap, sym, subst, ℕ, ◌+◌, ◌<◌, ◌≤◌, ◌-◌, Option, Some, None, Result, Ok, Err, List, [], ◌∷◌, length, slice_get, OnOk, refl, arith, zero, suc}
+use Rattle.std.proofs.Common.{◌≡◌, ◌∙◌, ap, sym, subst, ℕ, ◌+◌, ◌<◌, ◌≤◌, ◌-◌, Option, Some, Result, Ok, Err, List, [], ◌∷◌, length, slice_get, refl, arith, zero, suc}
 use Rattle.st_words.specs.declared.deployment.Deployment.{Deployment}
 use Rattle.st_schedule.specs.declared.done.Done.{Done}
 use Rattle.st_protocol.specs.Words.{Bytes}
@@ -17,7 +17,7 @@ use Rattle.st_world.specs.declared.world.World.{World}
 use Rattle.st_world.specs.declared.error.WorldError.{WorldError}
 use Rattle.st_world.specs.declared.flow.Flow.{Flow}
 use Rattle.st_world.specs.Standing.{AreSent, IsSet, IsSent, IsWorld, IsStanding, Ends, CameTo}
-use Rattle.st_world.specs.Flows.{IsFlowing, AreFlowed, FlowedTo, begun}
+use Rattle.st_world.specs.Flows.{IsFlowing, AreFlowed, begun}
 use Rattle.st_world.proofs.EndLaws.{ends_still}
 
 -- ---- other pairs wait
@@ -30,7 +30,7 @@ waits_on w waiting d m pairs stands is newest below =
     let was : IsSent w d m = stands.sending in
     let set : IsSet w d = stands.set in
     record {
-      set = record { taken = set.taken; deployment = set.deployment; seals = set.seals; sealer = set.sealer; seat = set.seat };
+      set = record { taken = set.taken; deployment = set.deployment; seals = set.seals; sealer = set.sealer; sealers = set.sealers; seat = set.seat };
       server = stands.server;
       kept = stands.kept;
       plain = plain_with_waiting m pairs stands.plain;
@@ -47,7 +47,7 @@ waits_still w waiting d m stands is newest =
     let was : IsSent w d m = stands.sending in
     let set : IsSet w d = stands.set in
     record {
-      set = record { taken = set.taken; deployment = set.deployment; seals = set.seals; sealer = set.sealer; seat = set.seat };
+      set = record { taken = set.taken; deployment = set.deployment; seals = set.seals; sealer = set.sealer; sealers = set.sealers; seat = set.seat };
       server = stands.server;
       kept = stands.kept;
       plain = stands.plain;

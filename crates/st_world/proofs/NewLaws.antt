@@ -1,12 +1,12 @@
 -- A world before its first event.
-use Rattle.std.proofs.Common.{◌≡◌, ◌∙◌, ap, sym, subst, ℕ, ◌+◌, ◌*◌, ◌≤◌, ◌&&◌, nat_lt, true, Option, None, List, [], length, IsTrue, refl, arith}
+use Rattle.std.proofs.Common.{◌≡◌, ◌∙◌, ap, sym, ℕ, ◌+◌, ◌*◌, ◌&&◌, nat_lt, Option, None, List, [], IsTrue, refl, arith}
 use Rattle.st_words.specs.declared.deployment.Deployment.{Deployment}
 use Rattle.st_seal.specs.Pen.{Pen}
 use Rattle.st_seal.specs.Scheme.{Scheme, scheme_of, is_party}
-use Rattle.st_hss_seal.specs.Sealing.{capacity_by, pen_in}
+use Rattle.st_hss_seal.specs.Sealing.{pen_in}
 use Rattle.st_hss_seal.specs.Sealers.{scheme_in, pen_of}
 use Rattle.st_tables.specs.Entries.{entry}
-use Rattle.st_protocol.specs.Words.{Bytes, server_at}
+use Rattle.st_protocol.specs.Words.{server_at}
 use Rattle.st_protocol.specs.Keeping.{joined, gathered}
 use Rattle.st_protocol.specs.State.{Seat}
 use Rattle.st_protocol.specs.World.{empty, fresh_node, fresh_customer, capacity_of, sent_size, seat_of}
@@ -23,6 +23,7 @@ use Rattle.st_server.specs.Fresh.{IsFresh}
 use Rattle.st_server.specs.Serving.{Stands, seat_by}
 use Rattle.st_deployment.specs.Deployed.{world_deployment}
 use Rattle.st_deployment.proofs.SetLaws.{capacity_same, capacity_few, choice_of}
+use Rattle.st_sealers.specs.Keeping.{KeepsSealers}
 use Rattle.st_world.specs.declared.world.World.{World}
 use Rattle.st_world.specs.Customers.{customer_by, customer_in}
 use Rattle.st_world.specs.First.{first_here}
@@ -74,13 +75,13 @@ no_size : (d : Deployment) → sent_size (world_deployment d) [] ≡ 0
 unfolding sent_size
 no_size d = refl
 
-pub first_world : (w : World) (d : Deployment) (capacity : ℕ) → IsTaken d → w.deployment ≡ d → scheme_in w.seals ≡ scheme_of d → pen_of w.sealer ≡ pen_in (scheme_of d) (server_at 0 0)
+pub first_world : (w : World) (d : Deployment) (capacity : ℕ) → IsTaken d → w.deployment ≡ d → scheme_in w.seals ≡ scheme_of d → pen_of w.sealer ≡ pen_in (scheme_of d) (server_at 0 0) → KeepsSealers (scheme_of d) w.sealers
     → capacity ≡ capacity_of d.seals → Stands w.server [] [] → seat_by w.server ≡ view.seat_of d.clients list_serve (first_here d (record { site = 0; index = 0 }) capacity) → ((c : ℕ) → entry w.customers c ≡ None)
     → w.sent ≡ [] → w.size ≡ 0 → pairs_in w.waiting ≡ [] → newest_in w.waiting ≡ 0 → IsMade w.made [] → IsWorld w d empty
 unfolding empty fresh_node
-first_world w d capacity taken own seals sealer count stands seat customers sent size pairs newest made =
+first_world w d capacity taken own seals sealer sealers count stands seat customers sent size pairs newest made =
     record {
-      set = record { taken = taken; deployment = own; seals = seals; sealer = sealer; seat = seat ∙ seat_is d capacity count };
+      set = record { taken = taken; deployment = own; seals = seals; sealer = sealer; sealers = sealers; seat = seat ∙ seat_is d capacity count };
       server = stands;
       kept = empty_in_range (seat_of (world_deployment d) 0 0);
       plain = empty_plain _;

@@ -9,7 +9,6 @@ use Rattle.st_words.specs.declared.ids.Who.{Who}
 use Rattle.st_words.specs.declared.value.Value.{Value}
 use Rattle.st_words.specs.declared.statement.Statement.{Statement}
 use Rattle.st_message.specs.declared.event.Output.{Output}
-use Rattle.st_message.specs.declared.made.MadeSeal.{MadeSeal}
 use Rattle.st_message.specs.declared.message.Message.{Message}
 use Rattle.st_message.specs.declared.message.Message.TheVariants as messages
 use Rattle.st_message.specs.declared.message.ReportBody.{ReportBody}
@@ -33,7 +32,7 @@ noted w made d m who leaf s stands is =
     let was : IsSent w d m = stands.sending in
     let set : IsSet w d = stands.set in
     record {
-      set = record { taken = set.taken; deployment = set.deployment; seals = set.seals; sealer = set.sealer; seat = set.seat };
+      set = record { taken = set.taken; deployment = set.deployment; seals = set.seals; sealer = set.sealer; sealers = set.sealers; seat = set.seat };
       server = stands.server;
       kept = stands.kept;
       plain = plain_hands m who leaf s stands.plain;

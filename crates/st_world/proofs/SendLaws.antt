@@ -1,5 +1,5 @@
 -- A message more.
-use Rattle.std.proofs.Common.{◌≡◌, ◌∙◌, ap, sym, subst, ℕ, ◌+◌, ◌-◌, ◌<◌, ◌≤◌, nat_le, nat_lt, Bool, true, false, cond, Option, Some, None, Result, Ok, Err, List, [], ◌∷◌, ◌++◌, length, refl, arith, le-leb}
+use Rattle.std.proofs.Common.{◌≡◌, ◌∙◌, ap, sym, subst, ℕ, ◌+◌, ◌-◌, ◌<◌, ◌≤◌, nat_le, nat_lt, Bool, true, false, cond, Option, Some, None, List, [], ◌∷◌, ◌++◌, length, refl, arith, le-leb}
 use Rattle.std.proofs.lemmas.Bool.{lt-leb, lt-ltb, ltb-true}
 use Rattle.std.proofs.lemmas.List.{length-append}
 use Rattle.st_words.specs.declared.deployment.Deployment.{Deployment}
@@ -99,7 +99,7 @@ sent_one w sent size waiting d m bytes to dest stands few room one sent_is size_
     let whole : sent_size (world_deployment d) m.sent + size_of (world_deployment d) bytes ≤ MOST_SENT = omega (arith, own, kept, most, room) in
     let set : IsSet w d = stands.set in
     record {
-      set = record { taken = set.taken; deployment = set.deployment; seals = set.seals; sealer = set.sealer; seat = set.seat };
+      set = record { taken = set.taken; deployment = set.deployment; seals = set.seals; sealer = set.sealer; sealers = set.sealers; seat = set.seat };
       server = stands.server;
       kept = stands.kept;
       plain = plain_sends_to (world_deployment d) m bytes (dests_of (world_deployment d) to) stands.plain;

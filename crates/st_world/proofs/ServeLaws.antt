@@ -1,6 +1,6 @@
 -- A delivery to the server.
-use Rattle.std.proofs.Common.{◌≡◌, ◌∙◌, ap, sym, subst, ℕ, ◌+◌, ◌^◌, Bool, true, false, cond, Option, Some, None, List, [], ◌∷◌, ◌++◌, refl}
-use Rattle.std.specs.List.{AllByRecursion as Each, All}
+use Rattle.std.proofs.Common.{◌≡◌, ◌∙◌, ap, sym, subst, ℕ, Bool, true, false, cond, List, [], ◌∷◌, ◌++◌}
+use Rattle.std.specs.List.{All}
 use Rattle.std.proofs.lemmas.List.{append-nil}
 use Rattle.std.proofs.lemmas.List.Elements.{All-from_recursion}
 use Rattle.st_words.specs.declared.deployment.Deployment.{Deployment}
@@ -13,7 +13,7 @@ use Rattle.st_message.specs.declared.reason.Reason.TheVariants.{Unknown}
 use Rattle.st_message.specs.declared.event.Outcome.TheVariants.{Ignored}
 use Rattle.st_schedule.specs.declared.done.Done.TheVariants as dones
 use Rattle.st_seal.specs.Pen as seal
-use Rattle.st_seal.specs.Scheme.{Scheme, scheme_of}
+use Rattle.st_seal.specs.Scheme.{scheme_of}
 use Rattle.st_hss_seal.specs.declared.deployment.PartySealer.{PartySealer}
 use Rattle.st_hss_seal.specs.Sealers.{pen_of}
 use Rattle.st_hss_seal.specs.Sealing.{pen_in}
@@ -21,7 +21,7 @@ use Rattle.st_protocol.specs.Words.{Bytes, server_at}
 use Rattle.st_protocol.specs.Keeping.{joined}
 use Rattle.st_protocol.specs.State.{Seat, Answers}
 use Rattle.st_protocol.specs.Questions.{questions, executed_in, executed_values}
-use Rattle.st_protocol.specs.Duty.{Deliver, Event, Reading, Clean, Faulty, Pen, ignored}
+use Rattle.st_protocol.specs.Duty.{Deliver, Clean, Faulty, ignored}
 use Rattle.st_protocol.specs.World as model
 use Rattle.st_protocol.specs.World.{Node, is_nil, reads, seat_of, plan_at, pen_at, settled, with_node, serves, Stepped, stepped, hands_out}
 use Rattle.st_protocol.proofs.GatherLaws.{joined-push}
@@ -115,7 +115,7 @@ settles w server sealer d m plan stands pen seat server_stands inside =
     let was : IsSent w d m = stands.sending in
     let set : IsSet w d = stands.set in
     record {
-      set = record { taken = set.taken; deployment = set.deployment; seals = set.seals; sealer = pen ∙ set.sealer; seat = seat ∙ set.seat };
+      set = record { taken = set.taken; deployment = set.deployment; seals = set.seals; sealer = pen ∙ set.sealer; sealers = set.sealers; seat = seat ∙ set.seat };
       server = without_body server (m.nodes 0 0).bodies ((m.nodes 0 0).heard ++ plan.heard) plan.changes server_stands;
       kept = kept_without (seat_of (world_deployment d) 0 0) (m.nodes 0 0).bodies (m.nodes 0 0).heard ((m.nodes 0 0).heard ++ plan.heard) plan.changes stands.kept inside.lists;
       plain = plain_with_node m 0 0 (settled (world_deployment d) (m.nodes 0 0) plan) (plain_settled (world_deployment d) (not_written d) (m.nodes 0 0) plan (plain_at m stands.plain 0 0)) stands.plain;

@@ -1,5 +1,5 @@
 -- A line does what the world's step does.
-use Rattle.std.proofs.Common.{◌≡◌, ◌∙◌, ap, sym, subst, ℕ, ◌+◌, ◌-◌, ◌*◌, ◌<◌, ◌≤◌, ◌&&◌, ◌||◌, not, nat_lt, Bool, true, false, cond, zero, suc, Option, Some, None, Result, Ok, Err, List, [], ◌∷◌, length, slice_get, refl, arith}
+use Rattle.std.proofs.Common.{◌≡◌, ◌∙◌, ap, sym, subst, ℕ, ◌+◌, ◌-◌, ◌*◌, ◌<◌, ◌≤◌, ◌&&◌, ◌||◌, nat_lt, Bool, true, false, cond, zero, suc, Option, Some, None, Result, Ok, Err, List, [], ◌∷◌, length, slice_get, refl, arith}
 use Rattle.std.specs.Option.{option_map}
 use Rattle.std.proofs.lemmas.Bool.{lt-ltb, ltb-true, and_from}
 use Rattle.st_words.specs.declared.deployment.Deployment.{Deployment}
@@ -22,7 +22,7 @@ use Rattle.st_deployment.specs.Deployed.{world_deployment}
 use Rattle.st_world.specs.declared.world.World.{World}
 use Rattle.st_world.specs.declared.error.WorldError.{WorldError}
 use Rattle.st_world.specs.declared.error.WorldError.TheVariants as errors
-use Rattle.st_world.specs.Standing.{AreSent, IsWorld, IsStanding, Ends, CameTo}
+use Rattle.st_world.specs.Standing.{AreSent, IsWorld, IsStanding, CameTo}
 use Rattle.st_world.specs.Flows.{begun}
 use Rattle.st_world.proofs.FlowLaws.{waits_on}
 

@@ -1,24 +1,22 @@
 -- A client's update is sent.
-use Rattle.std.proofs.Common.{◌≡◌, ◌∙◌, ap, sym, subst, ℕ, ◌+◌, ◌<◌, ◌≤◌, ◌^◌, nat_le, nat_lt, Bool, true, false, cond, Result, Ok, Err, length, IsTrue, refl, arith}
-use Rattle.std.proofs.lemmas.Bool.{le-leb, leb-true, lt-ltb}
+use Rattle.std.proofs.Common.{◌≡◌, ◌∙◌, ap, sym, subst, ℕ, ◌+◌, ◌<◌, ◌≤◌, ◌^◌, nat_le, Bool, true, false, cond, Ok, Err, length, refl, arith}
+use Rattle.std.proofs.lemmas.Bool.{le-leb, leb-true}
 use Rattle.st_words.specs.declared.deployment.Deployment.{Deployment}
-use Rattle.st_words.specs.declared.deployment.SealKind.{SealKind}
 use Rattle.st_words.specs.declared.value.Update.{Update}
 use Rattle.st_words.specs.declared.statement.Statement.{Statement}
 use Rattle.st_words.specs.declared.statement.Statement.TheVariants.{ClientUpdate}
 use Rattle.st_seal.specs.Pen.{Pen}
-use Rattle.st_seal.specs.Scheme.{Scheme, scheme_of, is_party}
+use Rattle.st_seal.specs.Scheme.{Scheme, scheme_of}
 use Rattle.st_hss_seal.specs.Sealers.{scheme_in, pen_of}
 use Rattle.st_hss_seal.specs.Sealing.{capacity_by, pen_in}
 use Rattle.st_message.specs.declared.event.Scope.TheVariants as scopes
-use Rattle.st_message.specs.declared.message.Message.{Message}
 use Rattle.st_message.specs.declared.message.Message.TheVariants as messages
 use Rattle.st_schedule.specs.declared.done.Done.TheVariants as dones
 use Rattle.st_schedule.specs.declared.limits.TheConstants.{MOST_OPERATION}
 use Rattle.st_words.specs.Ranges.{KeepsUpdate}
-use Rattle.st_wire.specs.Ranges.{KeepsSeal, KeepsMessage}
+use Rattle.st_wire.specs.Ranges.{KeepsSeal}
 use Rattle.st_wire.specs.Spelling.{message_spelling}
-use Rattle.st_protocol.specs.Words.{Bytes, server_at, client_at}
+use Rattle.st_protocol.specs.Words.{Bytes, client_at}
 use Rattle.st_protocol.specs.World as model
 use Rattle.st_protocol.specs.World.{Customer, Stepped, stepped, capacity_of, with_customer, hands, sends_to, dests_of}
 use Rattle.st_protocol.specs.Schedule.{submits}
@@ -27,9 +25,11 @@ use Rattle.st_server.specs.Sealing.{pen_by, sealed_bytes}
 use Rattle.st_deployment.specs.Deployed.{statement_seal, world_deployment}
 use Rattle.st_deployment.proofs.SetLaws.{capacity_same, capacity_few, choice_of}
 use Rattle.st_deployment.proofs.SealLengths.{seals_keep}
+use Rattle.st_sealers.specs.declared.sealers.ClientSealers.{ClientSealers}
+use Rattle.st_sealers.specs.Keeping.{KeepsSealers}
 use Rattle.st_world.specs.declared.world.World.{World}
 use Rattle.st_world.specs.declared.error.WorldError.{WorldError}
-use Rattle.st_world.specs.Standing.{IsSet, IsWorld, IsStanding, Ends, LedTo, CameTo}
+use Rattle.st_world.specs.Standing.{IsSet, IsSent, IsWorld, IsStanding, StaysWorld, Ends, CameTo}
 use Rattle.st_world.specs.Customers.{customer_in}
 use Rattle.st_world.specs.Submitting.{next_update, update_message}
 
@@ -79,14 +79,37 @@ few_leaves w used so below =
     let one = capacity_same so.deployment.seals in
     omega (arith, same, few, one, below)
 
+-- two worlds in memory of one deployment have the same
+pub deployment_same : (old new : World) (d : Deployment) → IsSet old d → IsSet new d → new.deployment ≡ old.deployment
+deployment_same old new d was is = is.deployment ∙ sym was.deployment
+
 -- ---- the client's seal
 
--- a client of the world is a party of its seals
-pub client_party : (w : World) (client : ℕ) → IsStanding w → client < w.deployment.clients → IsTrue (is_party (scheme_in w.seals) (client_at client))
-client_party w client so below =
+-- a client of the world is one of its seals' scheme
+pub client_below : (w : World) (client : ℕ) → IsStanding w → client < w.deployment.clients → client < (scheme_in w.seals).clients
+client_below w client so below =
     let set = so.stands.set in
     let same : w.deployment.clients ≡ (scheme_in w.seals).clients = ap (λ (x : Deployment). x.clients) set.deployment ∙ sym (ap (λ (s : Scheme). s.clients) set.seals) in
-    lt-ltb client (scheme_in w.seals).clients (omega (arith, same, below))
+    omega (arith, same, below)
+
+-- the sealers that are kept are the clients' in the scheme of the world's seals
+pub sealers_here : (w : World) → IsStanding w → KeepsSealers (scheme_in w.seals) w.sealers
+sealers_here w so = subst (λ (s : Scheme). KeepsSealers s w.sealers) (sym so.stands.set.seals) so.stands.set.sealers
+
+-- others that are kept leave it the same world
+pub sealers_stay : (w : World) (sealers : ClientSealers) → KeepsSealers (scheme_in w.seals) sealers → StaysWorld w (record w { sealers = sealers })
+sealers_stay w sealers keeps = λ d m stands.
+    let was : IsSent w d m = stands.sending in
+    let set : IsSet w d = stands.set in
+    record {
+      set = record { taken = set.taken; deployment = set.deployment; seals = set.seals; sealer = set.sealer; sealers = subst (λ (s : Scheme). KeepsSealers s sealers) set.seals keeps; seat = set.seat };
+      server = stands.server;
+      kept = stands.kept;
+      plain = stands.plain;
+      customers = stands.customers;
+      sending = record { sent = was.sent; number = was.number; size = was.size; few = was.few; newest = was.newest; below = was.below; waiting = was.waiting; made = was.made };
+      going = stands.going;
+    }
 
 -- its leaves are the deployment's
 pub client_leaves : (w : World) (client leaf : ℕ) (pen : Pen) → IsStanding w → pen ≡ pen_in (scheme_in w.seals) (client_at client) → leaf < capacity_by w.deployment.seals → leaf < pen.capacity
@@ -114,14 +137,10 @@ seal_keeps w client leaf s pen seal so is sealed =
 pub update_keeps : (client used : ℕ) (op : Bytes) (update : Update) → update ≡ next_update client used op → length op ≤ MOST_OPERATION → KeepsUpdate update
 update_keeps client used op update is few = subst KeepsUpdate (sym is) (let time : 1 ≤ used + 1 = omega arith in (time, few))
 
--- and so does its message
-pub copy_keeps : (update copy : Update) (seal : Bytes) → copy ≡ update → KeepsUpdate update → KeepsSeal seal → KeepsMessage (messages.Update copy seal)
-copy_keeps update copy seal same keeps long = (subst KeepsUpdate (sym same) keeps, long)
-
 -- its bytes are those of the update with the deployment's seal
-pub bytes_same : (w : World) (d : Deployment) (client leaf : ℕ) (update copy : Update) (seal bytes : Bytes) → IsSet w d → copy ≡ update → seal ≡ statement_seal d (client_at client) leaf (ClientUpdate update)
-    → bytes ≡ message_spelling w.deployment.id (messages.Update copy seal) → bytes ≡ message_spelling d.id (messages.Update update (statement_seal d (client_at client) leaf (ClientUpdate update)))
-bytes_same w d client leaf update copy seal bytes set same sealed spelled = spelled ∙ (λ i. message_spelling (set.deployment i).id (messages.Update (same i) (sealed i)))
+pub bytes_same : (w : World) (d : Deployment) (client leaf : ℕ) (update : Update) (seal bytes : Bytes) → IsSet w d → seal ≡ statement_seal d (client_at client) leaf (ClientUpdate update)
+    → bytes ≡ message_spelling w.deployment.id (messages.Update update seal) → bytes ≡ message_spelling d.id (messages.Update update (statement_seal d (client_at client) leaf (ClientUpdate update)))
+bytes_same w d client leaf update seal bytes set sealed spelled = spelled ∙ (λ i. message_spelling (set.deployment i).id (messages.Update update (sealed i)))
 
 -- the client's next
 pub bytes_next : (d : Deployment) (client used : ℕ) (op : Bytes) (update : Update) (bytes : Bytes) → update ≡ next_update client used op
@@ -146,7 +165,7 @@ submit_spent w d m client op used capacity stands is count spent =
 -- the update is sent
 module _ (w asked noted : World) (d : Deployment) (m : model.World Bytes) (client : ℕ) (op : Bytes) (used capacity : ℕ) (bytes : Bytes) (stands : IsWorld w d m) (is : used ≡ (m.customers client).time)
     (count : capacity ≡ (pen_of w.sealer).capacity) (left : used < capacity) (asks : IsWorld asked d (with_customer m client (asks_next (m.customers client))))
-    (notes : (n : model.World Bytes) (leaf : ℕ) → IsWorld asked d n → IsWorld noted d (hands n (client_at client) leaf (ClientUpdate (next_update client used op))))
+    (notes : (n : model.World Bytes) → IsWorld asked d n → IsWorld noted d (hands n (client_at client) used (ClientUpdate (next_update client used op))))
     (spelled : bytes ≡ message_spelling d.id (update_message d client used op)) where
   -- the definitions
   submits_is : submits (world_deployment d) m client op ≡ submit_sent d m client used op
@@ -154,7 +173,7 @@ module _ (w asked noted : World) (d : Deployment) (m : model.World Bytes) (clien
 
   -- the world before it is sent
   pub asked_stands : IsWorld noted d (asked_world m client used op)
-  asked_stands = notes (with_customer m client (asks_next (m.customers client))) used asks
+  asked_stands = notes (with_customer m client (asks_next (m.customers client))) asks
 
   -- what is sent
   abbrev sent_of : Bytes → model.World Bytes

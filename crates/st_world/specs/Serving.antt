@@ -1,5 +1,5 @@
 -- What a delivery to the server comes to, step by step, and how bytes are read for whom.
-use Rattle.std.specs.Prelude.{◌≡◌, ◌≤◌, ℕ, length, Result, Ok, Err}
+use Rattle.std.specs.Prelude.{◌≤◌, ℕ, length, Result, Ok, Err}
 use Rattle.st_words.specs.declared.deployment.Deployment.{Deployment}
 use Rattle.st_message.specs.declared.event.Plan.{Plan}
 use Rattle.st_message.specs.declared.message.Message.{Message}

@@ -13,6 +13,7 @@ use Rattle.st_protocol.specs.World.{Fault, BadReference, Forged, TooMany, TooMuc
 use Rattle.st_protocol.specs.Plain.{ArePlain}
 use Rattle.st_ranges.specs.Ranges.{ListsInRange}
 use Rattle.st_made.specs.Keys.{IsMade}
+use Rattle.st_sealers.specs.Keeping.{KeepsSealers}
 use Rattle.st_waiting.specs.Undelivered.{pairs_in, newest_in}
 use Rattle.st_config.specs.Taken.{IsTaken}
 use Rattle.st_server.specs.Serving.{Stands, seat_by}
@@ -28,6 +29,7 @@ pub record IsSet (w : World) (d : Deployment) : Type 0 where
   pub deployment : w.deployment ≡ d
   pub seals : scheme_in w.seals ≡ scheme_of d
   pub sealer : pen_of w.sealer ≡ pen_in (scheme_of d) (server_at 0 0)
+  pub sealers : KeepsSealers (scheme_of d) w.sealers
   pub seat : seat_by w.server ≡ seat_of (world_deployment d) 0 0
 
 -- the pairs are of so many messages
@@ -60,6 +62,10 @@ pub record IsStanding (w : World) : Type 0 where
   pub deployment : Deployment
   pub model : model.World Bytes
   pub stands : IsWorld w deployment model
+
+-- what is changed in memory leaves it the same world
+abbrev pub StaysWorld : World → World → Type 0
+StaysWorld old new = (d : Deployment) (m : model.World Bytes) → IsWorld old d m → IsWorld new d m
 
 -- ---- what calls come to
 

@@ -19,6 +19,7 @@ use st_hss_seal::{DeploymentSeals, PartySealer};
 use st_made::Made;
 use st_message::Here;
 use st_seal::Sealer;
+use st_sealers::ClientSealers;
 use st_server::Server;
 use st_tables::Table;
 use st_waiting::Waiting;
@@ -36,6 +37,7 @@ impl World {
         let waiting = Waiting::new(alloc)?;
         let seals = seals_of(alloc, d)?;
         let sealer = sealer_of(alloc, &seals)?;
+        let sealers = ClientSealers::new(alloc, d.clients)?;
         let capacity = sealer.capacity();
         let server = server_of(alloc, d, capacity)?;
         let deployment = copy_of(alloc, d);
@@ -45,6 +47,7 @@ impl World {
             deployment,
             seals,
             sealer,
+            sealers,
             server,
             customers,
             sent,

@@ -2,6 +2,7 @@ use st_client::Client;
 use st_fields::{Bytes, Seq};
 use st_hss_seal::{DeploymentSeals, PartySealer};
 use st_made::Made;
+use st_sealers::ClientSealers;
 use st_server::Server;
 use st_tables::Table;
 use st_waiting::Waiting;
@@ -14,6 +15,7 @@ pub struct World {
     pub seals: DeploymentSeals,
     /// The server's.
     pub sealer: PartySealer,
+    pub sealers: ClientSealers,
     pub server: Server,
     /// Per client; one that isn't there has asked for nothing.
     pub customers: Table<Client>,

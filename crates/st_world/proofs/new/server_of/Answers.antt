@@ -1,5 +1,5 @@
 -- The server stands where it stood at first.
-use Rattle.std.proofs.Common.{◌∙◌, ap, sym, subst, refl}
+use Rattle.std.proofs.Common.{◌∙◌, ap, sym, subst}
 use Rattle.st_message.specs.declared.here.Here.{Here}
 use Rattle.st_state.specs.HereView as view
 use Rattle.st_live.specs.Service.{list_serve}

@@ -1,5 +1,5 @@
 -- Seal by seal.
-use Rattle.std.proofs.Common.{◌≡◌, ◌∙◌, ap, sym, not, refl, arith}
+use Rattle.std.proofs.Common.{◌∙◌, ap, sym, not, refl, arith}
 use Rattle.st_world.proofs.ForgedLaws.{goes_past, is_found, none_is_left}
 use Rattle.st_world.proofs.world.World.first_forged.Goals as goal
 

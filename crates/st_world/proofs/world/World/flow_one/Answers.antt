@@ -1,5 +1,5 @@
 -- The oldest pair.
-use Rattle.std.proofs.Common.{◌∙◌, refl}
+use Rattle.std.proofs.Common.{refl}
 use Rattle.st_waiting.specs.Places.{pair_of}
 use Rattle.st_waiting.specs.Undelivered.{pairs_in}
 use Rattle.st_world.proofs.FlowLaws.{turn_nothing, nothing_stands, standing_on, first_sent, turned, turn_ended, standing_after}

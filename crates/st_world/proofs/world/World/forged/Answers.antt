@@ -1,5 +1,4 @@
 -- By what the bytes are.
-use Rattle.std.proofs.Common.{◌∙◌, ap, sym}
 use Rattle.std.proofs.lemmas.Result.{IfOk-weaker}
 use Rattle.st_world.proofs.ForgedLaws.{forged_message, forged_unread}
 use Rattle.st_world.proofs.world.World.forged.Goals as goal

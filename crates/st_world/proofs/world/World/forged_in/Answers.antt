@@ -2,7 +2,6 @@
 use Rattle.std.proofs.Common.{◌∙◌, ap}
 use Rattle.std.proofs.lemmas.Result.{IfOk-weaker}
 use Rattle.st_world.specs.Honest.{first_forged}
-use Rattle.st_world.proofs.DeliverLaws.{has_site}
 use Rattle.st_world.proofs.ForgedLaws.{in_message, seals_kept}
 use Rattle.st_world.proofs.world.World.forged_in.Goals as goal
 

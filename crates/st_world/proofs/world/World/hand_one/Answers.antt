@@ -1,11 +1,6 @@
 -- The message is noted, spelled and sent.
-use Rattle.std.proofs.Common.{◌≡◌, ◌∙◌, ap, subst, sym, refl, Err, Ok}
-use Rattle.st_protocol.specs.Words.{Bytes}
-use Rattle.st_protocol.specs.World as model
-use Rattle.st_protocol.specs.World.{notes_seal, sends_to, dests_of}
-use Rattle.st_wire.specs.Spelling.{message_spelling}
+use Rattle.st_protocol.specs.World.{notes_seal}
 use Rattle.st_deployment.specs.Deployed.{world_deployment}
-use Rattle.st_world.specs.Standing.{IsWorld, Ends}
 use Rattle.st_world.proofs.SendLaws.{hands_sent, hands_ended}
 use Rattle.st_world.proofs.world.World.hand_one.Goals as goal
 

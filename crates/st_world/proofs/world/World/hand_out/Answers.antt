@@ -1,6 +1,5 @@
 -- One message more is handed out.
-use Rattle.std.proofs.Common.{◌≡◌, ◌∙◌, ap, subst, List, take, arith}
-use Rattle.std.proofs.lemmas.List.Elements.{All-get_or}
+use Rattle.std.proofs.Common.{◌∙◌, subst, List, take, arith}
 use Rattle.st_message.specs.declared.event.Output.{Output}
 use Rattle.st_protocol.specs.World.{hands_out}
 use Rattle.st_deployment.specs.Deployed.{world_deployment}

@@ -1,5 +1,5 @@
 -- The plan is handed out.
-use Rattle.std.proofs.Common.{◌≡◌, ap, subst, refl, Err, Ok}
+use Rattle.std.proofs.Common.{subst, refl, Ok}
 use Rattle.st_schedule.specs.declared.done.Done.TheVariants as dones
 use Rattle.st_protocol.specs.Words.{Bytes}
 use Rattle.st_protocol.specs.World.{Stepped}

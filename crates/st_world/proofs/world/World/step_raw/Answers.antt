@@ -1,5 +1,5 @@
 -- Bytes in which no seal is forged are delivered.
-use Rattle.std.proofs.Common.{◌∙◌, ap, sym}
+use Rattle.std.proofs.Common.{◌∙◌, sym}
 use Rattle.st_world.proofs.StepLaws.{raw_missing, raw_forged, raw_delivered, forged_some, forged_none}
 use Rattle.st_world.proofs.world.World.step_raw.Goals as goal
 

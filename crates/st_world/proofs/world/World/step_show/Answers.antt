@@ -1,5 +1,5 @@
 -- A message that is there is shown.
-use Rattle.std.proofs.Common.{◌∙◌, ap, sym, subst, Some}
+use Rattle.std.proofs.Common.{◌∙◌, ap, sym, Some}
 use Rattle.st_world.proofs.StepLaws.{show_step, show_missing}
 use Rattle.st_world.proofs.world.World.step_show.Goals as goal
 
