@@ -1,6 +1,6 @@
 #!/usr/bin/env python3
 """Keyed seals by the definition, with the standard library alone: the values of the tests
-of st_seal and st_server.
+of st_seal and st_sealing.
 
 A party's secret is SHA-256 of 01, the seed and the party's two bytes (site and index, or ff and
 client). A seal with leaf k is k as four bytes, big-endian, and SHA-256 of the secret, those four bytes

@@ -1,5 +1,5 @@
 -- The example is a run.
-use Rattle.std.proofs.Common.{◌≡◌, ℕ, ◌<◌, ◌≤◌, ◌++◌, true, IsTrue, List, [], ◌∷◌, length, refl, sym, ap, subst, inl, inr, ⊎_elim, arith}
+use Rattle.std.proofs.Common.{◌≡◌, ℕ, ◌<◌, ◌≤◌, ◌++◌, true, IsTrue, List, [], ◌∷◌, length, refl, sym, ◌∙◌, ap, subst, inl, inr, ⊎_elim, arith}
 use Rattle.st_words.specs.declared.statement.Item.{Item}
 use Rattle.st_words.specs.declared.statement.Statement.{Statement}
 use Rattle.st_words.specs.declared.statement.Statement.TheVariants.{Accept}
@@ -54,13 +54,13 @@ view_0-can = (
     (
       (omega arith, (inl refl, tt)),
       (
-        (omega arith, ((refl, refl, refl), refl)),
+        (omega arith, ((refl, refl, refl, omega arith), refl)),
         (
           (omega arith, ((refl, record { view = refl; local = refl; prepared = inl refl }), tt)),
           (
             (omega arith, (inl refl, (omega arith, omega arith))),
             (
-              (omega arith, ((refl, refl), refl)),
+              (omega arith, ((refl, refl, omega arith), refl)),
               (
                 (omega arith, ((refl, record { view = refl; local = 0; accepted = inl refl }), tt)),
                 ((omega arith, (inl refl, omega arith)), tt),
@@ -95,6 +95,7 @@ union-backed w entered made stand =
           (⊎_elim (λ (is : accept 0 g n v ≡ prepare 0 0 0 1 value). absurd (cc)) (λ no. absurd no)))
           here;
       backed = λ i among. ⊎_elim (λ same. subst (λ (x : Item). IsTrue (stands three w (leader three x.view.0) (is_proposal (leader three x.view.0) x.view.0 x.local.0 x.number.0 x.value))) (sym same) stand) (λ no. absurd no) among;
+      one = λ i j in_i in_j same. ⊎_elim (λ (a : i ≡ item). ⊎_elim (λ (b : j ≡ item). a ∙ sym b) (λ no. absurd no) in_j) (λ no. absurd no) in_i;
     }
 
 -- the union of the second, which has accepted nothing
@@ -107,6 +108,7 @@ empty-backed w entered made =
       covers = λ k correct reported g n v has lower above.
           absurd (⊎_elim (λ same. subst (λ (ts : List Statement). Has (accept 1 g n v) ts) made (subst (λ x. Has (accept 1 g n v) (made_of (w.records 1 x))) same has)) (λ no. no) correct);
       backed = λ i among. absurd among;
+      one = λ i j in_i in_j same. absurd in_i;
     }
 
 -- the moves of the change before the second union
@@ -189,13 +191,13 @@ view_1-can =
       (
         (omega arith, (inl refl, tt)),
         (
-          (omega arith, ((refl, refl, refl), refl)),
+          (omega arith, ((refl, refl, refl, omega arith), refl)),
           (
             (omega arith, ((refl, record { view = refl; local = refl; prepared = inl refl }), tt)),
             (
               (omega arith, (inl refl, (omega arith, omega arith))),
               (
-                (omega arith, ((refl, refl), refl)),
+                (omega arith, ((refl, refl, omega arith), refl)),
                 (
                   (omega arith, ((refl, record { view = refl; local = 0; accepted = inl refl }), tt)),
                   (
@@ -203,12 +205,12 @@ view_1-can =
                     (
                       (omega arith, (omega arith, tt)),
                       (
-                        (omega arith, ((refl, refl), refl)),
+                        (omega arith, ((refl, refl, omega arith), refl)),
                         (
                           (omega arith, ((refl, record { view = refl; local = 0; accepted = inl refl }), tt)),
                           (
                             (omega arith, (inl refl, omega arith)),
-                            ((omega arith, (tt, (1, omega arith))), tt),
+                            ((omega arith, (refl, (1, omega arith))), tt),
                           ),
                         ),
                       ),

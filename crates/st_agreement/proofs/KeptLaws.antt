@@ -62,6 +62,7 @@ global_union-kept d old new s view base items sites step exists union =
           (made-fresh d old s (old.records s k) (new.records s k) (step.records s k exists correct) (accept s g n v) made);
       backed = λ i among.
           stands-kept d old new (leader d i.view.0) (is_proposal (leader d i.view.0) i.view.0 i.local.0 i.number.0 i.value) step (leader-lt d i.view.0 sites) (union.backed i among);
+      one = union.one;
     }
 
 -- a maker

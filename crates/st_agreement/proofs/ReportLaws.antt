@@ -153,4 +153,5 @@ bundle-global_union d w s view base items reports inv exists bundle union =
           let based : r.0.base ≤ base = union.based r.0 r.1.0 in
           union-covers_view reports base items r.0 n g union r.1.0 above (r.1.1.covers g n v made lower (omega arith));
       backed = λ i among. let r = union.each i among in bundle.backed r.0 i r.1.0 r.1.1;
+      one = union.one;
     }

@@ -1,8 +1,8 @@
 -- One server's records, newest first: what they hold, and what may be recorded next.
-use Rattle.std.specs.Prelude.{ℕ, List, [], ◌∷◌}
+use Rattle.std.specs.Prelude.{ℕ, ◌+◌, List, [], ◌∷◌}
 use Rattle.st_words.specs.declared.statement.Statement.{Statement}
 use Rattle.st_message.specs.declared.change.Change.{Change}
-use Rattle.st_message.specs.declared.change.Change.TheVariants.{EnterLocal, EnterGlobal, Made, Prepared, Accepted, Union}
+use Rattle.st_message.specs.declared.change.Change.TheVariants.{EnterLocal, EnterGlobal, Made, Prepared, Accepted, Union, Executed}
 
 -- ---- what records hold
 
@@ -41,3 +41,9 @@ abbrev pub local_of : List Change → ℕ
 local_of [] = 0
 local_of (EnterLocal local quorum ∷ cs) = local.0
 local_of (_ ∷ cs) = local_of cs
+
+-- how many numbers were executed
+abbrev pub executed_of : List Change → ℕ
+executed_of [] = 0
+executed_of (Executed number proof ∷ cs) = executed_of cs + 1
+executed_of (_ ∷ cs) = executed_of cs

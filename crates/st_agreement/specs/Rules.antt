@@ -1,5 +1,6 @@
 -- What a server may record next, by its own records alone.
 use Rattle.std.specs.Prelude.{◌≡◌, ℕ, ◌+◌, ◌<◌, ◌≤◌, ◌/◌, ◌⊎◌, List, [], ◌∷◌, length, map}
+use Rattle.st_words.specs.declared.deployment.TheConstants.{WINDOW}
 use Rattle.st_words.specs.declared.value.Value.{Value}
 use Rattle.st_words.specs.declared.statement.Item.{Item}
 use Rattle.st_words.specs.declared.statement.Statement.{Statement}
@@ -7,7 +8,7 @@ use Rattle.st_words.specs.declared.statement.Statement.TheVariants.{Prepare, Pro
 use Rattle.st_message.specs.declared.change.Change.{Change}
 use Rattle.st_message.specs.declared.change.Change.TheVariants.{EnterLocal, EnterGlobal, Made, Prepared, Accepted, Union, Executed}
 use Rattle.st_counts.specs.Counts.{Has, Distinct}
-use Rattle.st_agreement.specs.Records.{made_of, prepared_of, accepted_of, unions_of, view_of, local_of}
+use Rattle.st_agreement.specs.Records.{made_of, prepared_of, accepted_of, unions_of, view_of, local_of, executed_of}
 use Rattle.st_agreement.specs.Sites.{Sites, leader}
 use Rattle.st_agreement.specs.Statements.{prepare, proposal, local_union, global_union}
 
@@ -141,12 +142,12 @@ Makes d s _ records = Unit {0}
 
 -- a Prepare of the own site, in the present views, of which a quorum was seen
 abbrev pub MayPrepare : ℕ → Statement → List Change → Type 0
-MayPrepare s (Prepare s2 g l n v) records = (s2.0 ≡ s) × (g.0 ≡ view_of records) × (l.0 ≡ local_of records)
+MayPrepare s (Prepare s2 g l n v) records = (s2.0 ≡ s) × (g.0 ≡ view_of records) × (l.0 ≡ local_of records) × (n.0 ≤ executed_of records + WINDOW)
 MayPrepare s _ records = ⊥
 
 -- a Proposal of the leader site, in the present view, of which a certificate was seen
 abbrev pub MayAccept : Sites → Statement → List Change → Type 0
-MayAccept d (Proposal s2 g l n v) records = (s2.0 ≡ leader d g.0) × (g.0 ≡ view_of records)
+MayAccept d (Proposal s2 g l n v) records = (s2.0 ≡ leader d g.0) × (g.0 ≡ view_of records) × (n.0 ≤ executed_of records + WINDOW)
 MayAccept d _ records = ⊥
 
 -- a union of the own site for the present local view, or of a site for the present view
@@ -163,7 +164,7 @@ Allowed d s (Made leaf t) records = Makes d s t records
 Allowed d s (Prepared t quorum) records = MayPrepare s t records
 Allowed d s (Accepted t quorum) records = MayAccept d t records
 Allowed d s (Union t quorum) records = MayHold d s t records
-Allowed d s (Executed number proof) records = Unit {0}
+Allowed d s (Executed number proof) records = number.0 ≡ executed_of records + 1
 
 -- each record was allowed by those before it
 abbrev pub History : Sites → ℕ → List Change → Type 0

@@ -11,11 +11,12 @@ use Rattle.st_client.specs.Replying.{awaits, awaited, takes, reply_outcome, kept
 module _ {Wire : Type 0} where
   -- where the client waits for the time, and has no Reply of the server, it is changed
   by_tests : (waits has : Bool) (world changed : World Wire) (last : ℕ)
-      → cond waits (cond has (stepped world (done.Outcome (Ignored Seen))) (stepped changed (done.Outcome Did))) (stepped world (done.Outcome (Ignored (OldTime last))))
-      ≡ stepped (cond (waits && not has) changed world) (done.Outcome (cond waits (cond has (Ignored Seen) Did) (Ignored (OldTime last))))
+      → cond has (stepped world (done.Outcome (Ignored Seen))) (cond waits (stepped changed (done.Outcome Did)) (stepped world (done.Outcome (Ignored (OldTime last)))))
+      ≡ stepped (cond (waits && not has) changed world) (done.Outcome (cond has (Ignored Seen) (cond waits Did (Ignored (OldTime last)))))
   by_tests true true world changed last = refl
   by_tests true false world changed last = refl
-  by_tests false has world changed last = refl
+  by_tests false true world changed last = refl
+  by_tests false false world changed last = refl
 
   -- a changed client is the same, by whichever test it was changed
   taken_alone : (b : Bool) (world : World Wire) (client : ℕ) (new old : Customer)

@@ -33,10 +33,10 @@ awaited customer = world.awaited (with_f 0) customer
 abbrev pub takes : Customer → ℕ → ℕ → ℕ → Bool
 takes customer site index time = awaits customer time && not (is_some (customer.replies site index))
 
--- what the Reply comes to
+-- What the Reply comes to: a server whose Reply to the awaited time is kept is seen, whatever the time of this one.
 unfoldable pub reply_outcome : Customer → ℕ → ℕ → ℕ → Outcome
 reply_outcome customer site index time =
-    cond (awaits customer time) (cond (is_some (customer.replies site index)) (Ignored Seen) Did) (Ignored (OldTime (awaited customer)))
+    cond (is_some (customer.replies site index)) (Ignored Seen) (cond (awaits customer time) Did (Ignored (OldTime (awaited customer))))
 
 -- a Reply that is taken is kept and, with f+1 equal ones of its site, is the result
 unfoldable pub kept_or_answered : ℕ → Customer → ℕ → ℕ → Answered → Customer

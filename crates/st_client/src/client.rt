@@ -64,7 +64,8 @@ impl Client {
 
     /// Takes a server's Reply to the update of a time, whose seal checks. The first Reply of each server
     /// to the awaited time is kept; with f+1 equal ones of a site the client has its result, and waits no
-    /// more. Any other Reply is ignored, as one of an old time or as seen.
+    /// more. Any other Reply is ignored: as seen where that server's Reply is kept, else as one of an old
+    /// time.
     #[tactic(auto, unfolding(crate::specs::Customers::customer_of, crate::specs::Replying::reply_outcome, crate::specs::Replying::reply_customer))]
     pub fn take_reply(
         &mut self,
@@ -80,12 +81,12 @@ impl Client {
         ensures err { OnErr result (self.new ≡ self.old) }
         ensures memory { IsOkUnless result words.OutOfMemory }
     {
+        if entry_of(self.row(server.site), server.index).is_some() {
+            return Ok(Outcome::Ignored(Reason::Seen));
+        }
         if !self.awaits(time) {
             let last = self.awaited();
             return Ok(Outcome::Ignored(Reason::OldTime { last }));
-        }
-        if entry_of(self.row(server.site), server.index).is_some() {
-            return Ok(Outcome::Ignored(Reason::Seen));
         }
         self.keep_reply(alloc, f, server, number, replied)?;
         Ok(Outcome::Did)

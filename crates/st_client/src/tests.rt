@@ -47,7 +47,11 @@ fn two_equal_replies_of_a_site_are_the_result(rt: HostRuntime) -> Result<(), Fai
     let first = ServerId { site: 2, index: 0 };
     client.take_reply(alloc, 1, first, 1, Number(5), &replied)?;
     assert!(rt; client.result().is_none());
+    let repeated = client.take_reply(alloc, 1, first, 7, Number(5), &replied)?;
+    assert_eq!(rt; repeated, Outcome::Ignored(Reason::Seen));
     let last = ServerId { site: 2, index: 3 };
+    let old = client.take_reply(alloc, 1, last, 7, Number(5), &replied)?;
+    assert_eq!(rt; old, Outcome::Ignored(Reason::OldTime { last: 1 }));
     client.take_reply(alloc, 1, last, 1, Number(5), &replied)?;
     assert!(rt; client.result().is_some());
     Ok(())

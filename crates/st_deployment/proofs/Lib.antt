@@ -2,5 +2,5 @@
 pub mod PlanLaws
 pub mod SealLengths
 pub mod SetLaws
+pub mod FormatLaws
 pub mod RangeLaws
-pub mod ReadCoverLaws

@@ -1,97 +1,110 @@
--- Deployments that are taken today are in range, and so are the lines.
-use Rattle.std.proofs.Common.{◌≡◌, ◌∙◌, ap, sym, refl, arith, ℕ, ◌^◌, ◌<◌, not, nat_lt, if◌then◌else◌, Bool, true, false, List, length, Err}
-use Rattle.std.proofs.lemmas.Bool.{ltb-false}
-use Rattle.st_fields.proofs.Fields.{IsBytes}
+-- Deployments of files are in range, few of their servers are faulty, and those that are taken today are such.
+use Rattle.std.proofs.Common.{◌≡◌, sym, refl, arith, ℕ, ◌+◌, ◌*◌, ◌<◌, ◌≤◌, ◌&&◌, ◌||◌, not, nat_lt, Bool, true, false, zero, suc, List, [], ◌∷◌, subst}
+use Rattle.std.proofs.lemmas.Bool.{and_from, lt-ltb}
 use Rattle.st_words.specs.declared.deployment.Deployment.{Deployment}
-use Rattle.st_message.specs.declared.message.Message.{Message}
-use Rattle.st_message.specs.declared.reason.Reason.TheVariants as reasons
-use Rattle.st_schedule.specs.declared.line.Line.{Line}
-use Rattle.st_schedule.specs.declared.line.Line.TheVariants as lines
-use Rattle.st_fields.specs.Reading.{whole}
-use Rattle.st_wire.specs.declared.error.MessageError.TheVariants as errors
-use Rattle.st_wire.specs.Ranges.{most_bytes}
-use Rattle.st_wire.specs.Errors.{reading_of, for_deployment}
-use Rattle.st_wire.specs.Spelling.{message_spelling}
-use Rattle.st_wire.specs.Reading.{message_at}
-use Rattle.st_protocol.specs.Duty.{Reading, Faulty, Clean}
-use Rattle.st_protocol.specs.World.{is_server, seat_of}
-use Rattle.st_reading.specs.Deployed.{as_reading, wire_formats}
-use Rattle.st_reading.proofs.ReadLaws.{clean_is_spelled, sent_is_clean}
-use Rattle.st_ranges.specs.Ranges.{MessageInRange, ReadingInRange, SeatInRange}
-use Rattle.st_ranges.specs.Deployments.{KeepsRanges, DeploymentInRange, OutsideInRange, LineInRange}
+use Rattle.st_words.specs.declared.ids.ServerId.{ServerId}
+use Rattle.st_words.specs.declared.ids.Who.{Who}
+use Rattle.st_words.specs.declared.statement.Statement.{Statement}
+use Rattle.st_counts.specs.Counts.{Has, count, numbers_below}
+use Rattle.st_counts.proofs.CountLaws.{count-same}
+use Rattle.st_counts.proofs.MemberLaws.{numbers_below-lt}
+use Rattle.st_protocol.specs.Words.{Bytes}
+use Rattle.st_protocol.specs.World.{is_listed}
+use Rattle.st_ranges.specs.Ranges.{PenKeeps, ServeKeeps}
+use Rattle.st_ranges.specs.Deployments.{DeploymentInRange}
 use Rattle.st_config.specs.Taken.{IsTaken}
-use Rattle.st_config.specs.Built.{IsBuilt}
-use Rattle.st_deployment.specs.Deployed.{world_deployment}
-use Rattle.st_deployment.proofs.SetLaws.{faulty_is_none, pens_keep, choice_of, seat_in_range}
+use Rattle.st_server.specs.Deployed.{runs_no_code}
+use Rattle.st_deployment.specs.Deployed.{of_file}
+use Rattle.st_deployment.specs.Deployable.{IsDeployable, three_sites}
+use Rattle.st_deployment.proofs.SetLaws.{capacity_few}
+use Rattle.st_deployment.proofs.FormatLaws.{sent_same}
 
--- ---- the deployment
+-- ---- which servers run code
 
--- its id is of eight bytes
-id_fits : (d : Deployment) → IsTaken d → d.id < 2 ^ 64
-id_fits d taken = let small = taken.id in omega (arith, small)
+-- neither of two
+neither : (a b : Bool) → (a || not b) ≡ false → b ≡ true
+neither true b e = absurd (let no : true ≡ false = e in cc)
+neither false true e = refl
+neither false false e = absurd (let no : true ≡ false = e in cc)
 
 -- a server that runs code is there
-is_there : (is : Bool) → not is ≡ false → is ≡ true
-is_there true e = refl
-is_there false e = absurd (let no : true ≡ false = e in cc)
+runs_there : (d : Deployment) (site index : ℕ) → runs_no_code d site index ≡ false → (nat_lt site d.sites && nat_lt index (3 * d.f + 1)) ≡ true
+runs_there d site index e = neither (is_listed d.faulty site index) (nat_lt site d.sites && nat_lt index (3 * d.f + 1)) e
 
--- only its server runs code
-runs_there : (d : Deployment) (site index : ℕ) → IsTaken d → (world_deployment d).faulty site index ≡ false → is_server (world_deployment d) site index ≡ true
-runs_there d site index taken e = is_there (is_server (world_deployment d) site index) (sym (faulty_is_none d site index taken) ∙ e)
+-- a server that is there runs no code where it is listed
+listed_only : (d : Deployment) (s k : ℕ) → s < d.sites → Has k (numbers_below (3 * d.f + 1)) → runs_no_code d s k ≡ is_listed d.faulty s k
+listed_only d s k exists has =
+    by (is_listed d.faulty s k) (nat_lt s d.sites && nat_lt k (3 * d.f + 1))
+    (and_from (nat_lt s d.sites) (nat_lt k (3 * d.f + 1)) (lt-ltb s d.sites exists) (lt-ltb k (3 * d.f + 1) (numbers_below-lt k (3 * d.f + 1) has)))
+  where
+    by : (a b : Bool) → b ≡ true → (a || not b) ≡ a
+    by true b e = refl
+    by false true e = refl
+    by false false e = sym e
 
--- its numbers, seals and service keep their ranges
-keeps_ranges : (d : Deployment) → IsTaken d → KeepsRanges (world_deployment d)
-unfolding world_deployment
-keeps_ranges d taken =
-    let seat : SeatInRange (seat_of (world_deployment d) 0 0) = seat_in_range d taken in
+module _ (d : Deployment) (deployable : IsDeployable d) where
+  -- At most f servers of a site run no code.
+  pub few_faulty : (s : ℕ) → s < d.sites → count (runs_no_code d s) (numbers_below (3 * d.f + 1)) ≤ d.f
+  few_faulty s exists =
+      let same = count-same (runs_no_code d s) (is_listed d.faulty s) (numbers_below (3 * d.f + 1)) (λ k has. listed_only d s k exists has) in
+      let few = deployable.few_faulty s exists in
+      omega (arith, same, few)
+
+  -- Whatever service and seals that keep their ranges.
+  pub file_in_range : (serve : List Bytes → Bytes → Bytes) (seal : Who → ℕ → Statement → Bytes) → ServeKeeps serve → ((who : Who) → PenKeeps (seal who)) →
+      DeploymentInRange (of_file d serve (runs_no_code d) seal)
+  file_in_range serve seal serves seals =
+      record {
+        keeps =
+            record {
+              sites = deployable.sites;
+              servers = deployable.servers;
+              capacity = let few = capacity_few d.seals deployable.seals in omega (arith, few);
+              serve = serves;
+              seals = seals;
+              runs = λ site index e. runs_there d site index e;
+            };
+        reads = λ m n inside e. sent_same d m n deployable.id inside e;
+      }
+
+-- ---- which deployments there are
+
+-- There is such a deployment with faulty servers.
+pub three_deployable : IsDeployable three_sites
+unfolding is_listed
+three_deployable =
     record {
-      sites = seat.sites;
-      servers = seat.servers;
-      capacity = seat.capacity;
-      serve = seat.serve;
-      seals = λ who. pens_keep d who (choice_of d taken);
-      runs = λ site index e. runs_there d site index taken e;
+      id = omega arith;
+      some = omega arith;
+      sites = omega arith;
+      servers = omega arith;
+      seals = refl;
+      few_faulty = few;
     }
-
--- the message that is read
-clean_same : (m n : Message) → Clean m ≡ Clean n → n ≡ m
-clean_same m n e = cc
-
--- bytes that are too long are no message
-too_long : (d : Deployment) (bytes : List ℕ) → nat_lt most_bytes (length bytes) ≡ true → (wire_formats d).read bytes ≡ Faulty (reasons.TooLong (length bytes))
-unfolding reading_of
-too_long d bytes long = ap (λ (b : Bool). as_reading (if b then Err (errors.TooLong (length bytes)) else for_deployment d.id (whole message_at bytes))) long
-
--- a message in range is read as it was sent, if as any
-sent_same : (d : Deployment) (m n : Message) → d.id < 2 ^ 64 → MessageInRange m → (wire_formats d).read ((wire_formats d).encode m) ≡ Clean n → n ≡ m
-sent_same d m n small inside e = by (nat_lt most_bytes (length (message_spelling d.id m))) refl
   where
-    by : (b : Bool) → nat_lt most_bytes (length (message_spelling d.id m)) ≡ b → n ≡ m
-    by true long = absurd (let no : Faulty (reasons.TooLong (length (message_spelling d.id m))) ≡ Clean n = sym (too_long d (message_spelling d.id m) long) ∙ e in cc)
-    by false short =
-        clean_same m n (sym (sent_is_clean d m small inside.0 inside.1 (ltb-false most_bytes (length (message_spelling d.id m)) short)) ∙ e)
+    few : (s : ℕ) → s < 3 → count (is_listed three_sites.faulty s) (numbers_below 4) ≤ 1
+    few zero below = omega arith
+    few (suc zero) below = omega arith
+    few (suc (suc zero)) below = omega arith
+    few (suc (suc (suc s))) below = absurd (omega (arith, below))
 
--- A deployment that is taken is in range.
-pub deployment_in_range : (d : Deployment) → IsTaken d → DeploymentInRange (world_deployment d)
-unfolding world_deployment
-deployment_in_range d taken = record { keeps = keeps_ranges d taken; reads = λ m n inside e. sent_same d m n (id_fits d taken) inside e }
+-- of no list a server is faulty
+none_listed : (s : ℕ) (ks : List ℕ) → count (is_listed [] s) ks ≡ 0
+unfolding is_listed
+none_listed s [] = refl
+none_listed s (k ∷ ks) = let more = none_listed s ks in omega (arith, more)
 
--- ---- the lines
-
--- what bytes are read as is in range
-reading_in_range : (d : Deployment) (bytes : List ℕ) → IsBytes bytes → ReadingInRange ((wire_formats d).read bytes)
-reading_in_range d bytes fits = by ((wire_formats d).read bytes) refl
-  where
-    by : (r : Reading) → (wire_formats d).read bytes ≡ r → ReadingInRange r
-    by (Faulty reason) e = tt
-    by (Clean m) e = let is = clean_is_spelled d bytes m fits e in (is.keeps, is.fits)
-
--- so is what a line brings in
-outside_in_range : (d : Deployment) (line : Line) → IsBuilt line → OutsideInRange (world_deployment d) line
-unfolding world_deployment
-outside_in_range d (lines.Raw to bytes) built = reading_in_range d bytes built.fits.1
-outside_in_range d _ built = tt
-
--- A line that is taken is in range.
-pub line_in_range : (d : Deployment) (line : Line) → IsBuilt line → LineInRange (world_deployment d) line
-line_in_range d line built = (built.keeps, built.fits, outside_in_range d line built)
+-- What is taken today is such a deployment.
+pub taken_deployable : (d : Deployment) → IsTaken d → IsDeployable d
+taken_deployable d taken =
+    let id = taken.id in
+    let sites = taken.sites in
+    let f = taken.f in
+    record {
+      id = omega (arith, id);
+      some = omega (arith, sites);
+      sites = omega (arith, sites);
+      servers = omega (arith, f);
+      seals = taken.seals;
+      few_faulty = λ s exists. subst (λ (xs : List ServerId). count (is_listed xs s) (numbers_below (3 * d.f + 1)) ≤ d.f) (sym taken.faulty) (let none = none_listed s (numbers_below (3 * d.f + 1)) in omega (arith, none));
+    }

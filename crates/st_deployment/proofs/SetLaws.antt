@@ -24,7 +24,7 @@ use Rattle.st_protocol.specs.World.{capacity_of, is_listed, is_server, site_dest
 use Rattle.st_live.specs.Service.{list_serve}
 use Rattle.st_ranges.specs.Ranges.{PenKeeps, ServeKeeps, SeatInRange}
 use Rattle.st_config.specs.Taken.{IsTaken}
-use Rattle.st_server.specs.Sealing.{sealed_bytes}
+use Rattle.st_sealing.specs.Sealing.{sealed_bytes}
 use Rattle.st_deployment.specs.Deployed.{statement_seal, world_deployment}
 use Rattle.st_deployment.proofs.SealLengths.{seals_keep}
 

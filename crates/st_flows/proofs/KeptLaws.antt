@@ -122,9 +122,8 @@ module _ {Wire : Type 0} (d : Deployment Wire) (P : World Wire → Type 0) where
         P (on_checked_reply d world client customer site index time a).world
     unfolding on_checked_reply
     checked_kept world client customer site index time a h =
-        if_kept (awaits d customer time) _ _
-        (if_kept (is_some (customer.replies site index)) _ _ h (kept.client world client (answered d (with_reply d customer site index a) site a) h))
-        h
+        if_kept (is_some (customer.replies site index)) _ _ h
+        (if_kept (awaits d customer time) _ _ (kept.client world client (answered d (with_reply d customer site index a) site a) h) h)
 
     -- after a Reply
     reply_kept : (world : World Wire) (client : ℕ) (m : Message) (s : Statement) (signed : Signed) → P world → P (on_reply d world client m s signed).world

@@ -1,2 +1,3 @@
 -- Lemmas.
+pub mod EmptyLaws
 pub mod KeyLaws

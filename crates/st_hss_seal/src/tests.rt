@@ -1,4 +1,6 @@
-use crate::{DeploymentSeals, PartySealer, is_choice, what_parties_seal_checks};
+use crate::{
+    DeploymentSeals, PartySealer, is_choice, no_empty_seal_checks, what_parties_seal_checks,
+};
 use sha2::{Digest, Sha256};
 use st_fields::{Bytes, Seq};
 use st_hss::hss_check;
@@ -98,6 +100,7 @@ fn public_key(levels: u8, first: &[u8; 56]) -> [u8; 60] {
 #[test]
 fn seals_are_the_definitions(rt: HostRuntime) -> Result<(), Fail> {
     what_parties_seal_checks();
+    no_empty_seal_checks();
     let cases: [(Who, u8, u32, &[u8; 56], usize, [u8; 32]); 3] = [
         (
             server(1, 0),

@@ -1,6 +1,6 @@
 -- The parts that are not built yet: views, reports and unions, and what a server lacks.
 use Rattle.std.proofs.Common.{ℕ, ◌+◌, ◌-◌, Bool, true, false, nat_eq, nat_lt, nat_le, List, [], ◌∷◌, ◌++◌}
-use Rattle.std.specs.Prelude.{◌&&◌, ◌||◌, min, not, Option, Some, None, is_some}
+use Rattle.std.specs.Prelude.{◌&&◌, ◌||◌, min, not, Option, Some, is_some}
 use Rattle.std.specs.Option.{IfSome}
 use Rattle.std.specs.List.{AllByRecursion as Each}
 use Rattle.st_words.specs.declared.deployment.TheConstants.{WINDOW}
@@ -25,11 +25,11 @@ use Rattle.st_protocol.specs.Words.{Quorum, a_local_vc, a_global_vc, site_of, in
 use Rattle.st_protocol.specs.Keeping.{given}
 use Rattle.st_protocol.specs.State.{report_of, union_of, Here, Sealing, Backed, Share, Slots, Asked, Votes, Held, KeptViews}
 use Rattle.st_protocol.specs.Step.{then, making, recording, keeping, putting, when, all_below, count_below, one_if, majority, to_list, servers, quorum, to_rep, to_site, not_site, other_view, not_rep, bound, seen, spent, complete, completes, completed, certifies}
-use Rattle.st_protocol.specs.Forced.{item_at, item_view, item_local, higher_item}
+use Rattle.st_protocol.specs.Forced.{item_at}
 use Rattle.st_protocol.specs.Views.{votes_for, has_voted, with_asked, asks_for, word_for, on_local_timeout, on_global_timeout, on_local_share, on_local_proof, on_global_share, on_global_vc, on_view_proof}
 use Rattle.st_protocol.specs.Collecting.{item_of, in_window, make_report, not_present, reports_kept, with_report, add_report, view_in, base_in, items_in, most, best_item, union_items, union_as, union, check_bundle, union_to, on_union_share, union_site, on_union}
 use Rattle.st_protocol.specs.Reconciling.{owed_proofs, owed_view, owed_local, answer}
-use Rattle.st_ranges.proofs.ChoiceLaws.{either, chosen, chosen_any, either_has, higher_has, append_all, to_list_all, all_below_all}
+use Rattle.st_ranges.proofs.ChoiceLaws.{either, chosen, chosen_any, either_has, best_item_has, append_all, to_list_all, all_below_all}
 use Rattle.st_origins.specs.Passes.{ItemPasses, StatementPasses, ProofPasses, ReportPasses}
 use Rattle.st_origins.proofs.StateLaws.{BackedPasses, SlotsPass}
 use Rattle.st_origins.proofs.PartLaws.{OutPasses, AnswerPasses, decides_passes, then_passes, making_passes, recording_passes, keeping_passes, putting_passes, when_passes, certifies_pass, item_passes}
@@ -157,19 +157,18 @@ module _ (test : Value → Bool) where
   items_pass _ h = tt
 
   -- the highest item of a number
-  best_item_passes : (n : ℕ) (best : Option Item) (rs : List ReportBody) → IfSome best (ItemPasses test) → Each (ReportPasses test) rs → IfSome (best_item n best rs) (ItemPasses test)
-  unfolding best_item
-  best_item_passes n best [] b h = b
-  best_item_passes n best (r ∷ rs) b h =
-      best_item_passes n (higher_item best (item_at n (items_in r.statement))) rs
-      (higher_has (ItemPasses test) item_view item_local best (item_at n (items_in r.statement)) b (item_passes test n (items_in r.statement) (items_pass r.statement h.0.0)))
-      h.1
+  best_item_passes : (n : ℕ) (rs : List ReportBody) → Each (ReportPasses test) rs → IfSome (best_item n rs) (ItemPasses test)
+  best_item_passes n rs h = best_item_has (ItemPasses test) n rs (each rs h)
+    where
+      each : (rs : List ReportBody) → Each (ReportPasses test) rs → Each (λ (r : ReportBody). IfSome (item_at n (items_in r.statement)) (ItemPasses test)) rs
+      each [] h = tt
+      each (r ∷ rs) h = (item_passes test n (items_in r.statement) (items_pass r.statement h.0.0), each rs h.1)
 
   -- the items of a union
   union_items_pass : (rs : List ReportBody) → Each (ReportPasses test) rs → Each (ItemPasses test) (union_items rs)
   union_items_pass rs h =
-      all_below_all (ItemPasses test) (λ k. to_list (best_item (most base_in rs + 1 + k) None rs)) WINDOW
-      (λ k. to_list_all (ItemPasses test) (best_item (most base_in rs + 1 + k) None rs) (best_item_passes (most base_in rs + 1 + k) None rs tt h))
+      all_below_all (ItemPasses test) (λ k. to_list (best_item (most base_in rs + 1 + k) rs)) WINDOW
+      (λ k. to_list_all (ItemPasses test) (best_item (most base_in rs + 1 + k) rs) (best_item_passes (most base_in rs + 1 + k) rs h))
 
   -- a union of a report's kind
   union_as_passes : (s : Statement) (greatest least : ℕ) (more : List Item) → StatementPasses test s → Each (ItemPasses test) more → StatementPasses test (union_as s greatest least more)

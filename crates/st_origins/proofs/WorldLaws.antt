@@ -284,9 +284,8 @@ module _ {Wire : Type 0} (d : Deployment Wire) (test : Value → Bool) where
           PassingAfter (on_checked_reply d world client customer site index time a)
       unfolding on_checked_reply
       checked_passing world client customer site index time a w =
-          either PassingAfter (awaits d customer time) _ _
-          (either PassingAfter (is_some (customer.replies site index)) _ _ w (customer_passing world client (answered d (with_reply d customer site index a) site a) w))
-          w
+          either PassingAfter (is_some (customer.replies site index)) _ _ w
+          (either PassingAfter (awaits d customer time) _ _ (customer_passing world client (answered d (with_reply d customer site index a) site a) w) w)
 
       -- a Reply at a client
       reply_passing : (world : World Wire) (client : ℕ) (m : Message) (s : Statement) (signed : Signed) → Passing world → PassingAfter (on_reply d world client m s signed)

@@ -1,3 +1,5 @@
 -- Lemmas.
 pub mod OnceLaws
-pub mod PromiseLaws
+pub mod FlowLaws
+pub mod KeepLaws
+pub mod DeployedLaws

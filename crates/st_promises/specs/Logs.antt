@@ -1,5 +1,5 @@
--- What is promised of executed logs.
-use Rattle.std.specs.Prelude.{◌≡◌, ℕ, Bool, true, false, nat_eq, ◌&&◌, List, ◌++◌}
+-- How often an update ran in a log.
+use Rattle.std.specs.Prelude.{ℕ, Bool, true, false, nat_eq, ◌&&◌, List}
 use Rattle.st_words.specs.declared.value.Value.{Value}
 use Rattle.st_words.specs.declared.value.Value.TheVariants as values
 use Rattle.st_message.specs.declared.log.Ran.{Ran}
@@ -25,7 +25,3 @@ ran_at client time entry = is_update_of client time entry.value && has_ran entry
 -- How often the client's update of this time ran in a log.
 unfoldable pub times_ran : ℕ → ℕ → List Entry → ℕ
 times_ran client time entries = count_of (ran_at client time) entries
-
--- one log is a front of the other
-abbrev pub IsFront : List Entry → List Entry → Type 0
-IsFront xs ys = (more : List Entry) × (ys ≡ xs ++ more)

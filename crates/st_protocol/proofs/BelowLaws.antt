@@ -1,5 +1,5 @@
 -- Laws on what is counted, found and joined over the numbers below one.
-use Rattle.std.proofs.Common.{◌≡◌, ◌∙◌, ap, sym, subst, ℕ, zero, suc, ◌+◌, ◌<◌, ◌≤◌, ◌⊎◌, inl, inr, Bool, true, false, cond, Option, Some, None, List, [], ◌++◌, nat_lt, refl, arith, add-one}
+use Rattle.std.proofs.Common.{◌≡◌, subst, ℕ, zero, suc, ◌+◌, ◌<◌, ◌⊎◌, inl, inr, Bool, true, false, cond, Option, Some, None, List, [], ◌++◌, nat_lt, refl, arith, add-one}
 use Rattle.std.specs.Prelude.{◌||◌}
 use Rattle.st_protocol.specs.Keeping.{or_else}
 use Rattle.st_protocol.specs.Step.{count_below, some_below, first_below, all_below}

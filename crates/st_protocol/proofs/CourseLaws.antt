@@ -100,13 +100,13 @@ unfoldable pub Follows : Seat → List (List Change) → List Heard → Course �
 Follows seat bodies heard w = w.now ≡ questions seat (bodies ++ w.changes ∷ []) (heard ++ w.heard)
 
 -- the body with one change more
-body-last : (seat : Seat) (bodies : List (List Change)) (heard : List Heard) (xs : List Change) (x : Change) →
+pub body-last : (seat : Seat) (bodies : List (List Change)) (heard : List Heard) (xs : List Change) (x : Change) →
     questions seat (bodies ++ (xs ++ x ∷ []) ∷ []) heard ≡ after (questions seat (bodies ++ xs ∷ []) heard) x
 body-last seat bodies heard xs x =
     one_body seat bodies heard (xs ++ x ∷ []) ∙ fold_push after (questions seat bodies heard) xs x ∙ ap (λ q. after q x) (sym (one_body seat bodies heard xs))
 
 -- each step of a course keeps it
-follows : (seat : Seat) (bodies : List (List Change)) (heard : List Heard) → IsKept (Follows seat bodies heard)
+pub follows : (seat : Seat) (bodies : List (List Change)) (heard : List Heard) → IsKept (Follows seat bodies heard)
 unfolding Follows records keeps puts
 follows seat bodies heard =
     record {
@@ -119,7 +119,7 @@ follows seat bodies heard =
     }
 
 -- it holds where nothing is added yet
-at_first : (seat : Seat) (bodies : List (List Change)) (heard : List Heard) → Follows seat bodies heard (begins (questions seat bodies heard))
+pub at_first : (seat : Seat) (bodies : List (List Change)) (heard : List Heard) → Follows seat bodies heard (begins (questions seat bodies heard))
 unfolding Follows begins
 at_first seat bodies heard =
     sym (one_body seat bodies heard []) ∙ ap (questions seat (bodies ++ [] ∷ [])) (sym (append-nil heard))

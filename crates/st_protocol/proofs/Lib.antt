@@ -2,6 +2,8 @@
 pub mod GatherLaws
 pub mod GrowthLaws
 pub mod QuestionLaws
+pub mod RuleLaws
+pub mod UnionLaws
 pub mod CourseLaws
 pub mod DropLaws
 pub mod SameLaws

@@ -2,7 +2,7 @@
 use Rattle.std.proofs.Common.{◌≡◌, ◌∙◌, ap, sym, Bool, true, false, cond, Option, Some, None, List, [], ◌∷◌, refl}
 use Rattle.st_message.specs.declared.reason.Reason.{Reason}
 use Rattle.st_message.specs.declared.step.Step.{Step}
-use Rattle.st_protocol.specs.Step.{Answer, Refused, Steps, decides}
+use Rattle.st_protocol.specs.Step.{Refused, Steps, decides}
 use Rattle.st_protocol.specs.Part.{first_reason, answer_by}
 
 -- the first reason whose test is true is the answer, or else the step

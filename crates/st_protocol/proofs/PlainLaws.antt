@@ -23,7 +23,7 @@ use Rattle.st_protocol.specs.Keeping.{given}
 use Rattle.st_protocol.specs.Duty.{Event, Deliver, Tick, Reading, Faulty, Clean}
 use Rattle.st_protocol.specs.Known.{all_of}
 use Rattle.st_protocol.specs.World.{Deployment, Fault, BadReference, Running, Node, Pair, Answered, Customer, World, fresh_node, empty, is_nil, handed, same_dest, uses_leaf, Stepped, stepped, with_node, with_customer, with_waiting, ends, hands, bad_seal, read_known, sends_to, notes_seal, hands_one, hands_out, settled, is_full_by, is_stopped_by, stands_full, stands_stopped, plan_at, comes_to, by_stand, serves, with_reply, answered, awaits, on_checked_reply, on_reply, client_takes, delivers}
-use Rattle.st_protocol.specs.Schedule.{sets_no_stop, is_pair, without, drops, Flowing, counts, flows_first, flows, submits, timeout_event, restarted, then_assigns, sealed_message, client_seal_of, seals, forged_by, is_reference, goes, step, goes_on, steps, world_of}
+use Rattle.st_protocol.specs.Schedule.{sets_no_stop, is_pair, without, drops, Flowing, counts, flows_first, flows, submits, timeout_event, restarted, then_assigns, sealed_message, seals, forged_by, is_reference, goes, step, goes_on, steps, world_of}
 use Rattle.st_protocol.specs.Plain.{IsPlain, ArePlain}
 use Rattle.st_protocol.proofs.GatherLaws.{fold-keeps}
 
@@ -174,9 +174,8 @@ module _ {Wire : Type 0} (d : Deployment Wire) (nothing_written : (changes : Lis
       Plainly (on_checked_reply d world client customer site index time a)
   unfolding on_checked_reply
   checked_plain world client customer site index time a plain =
-      if_plainly (awaits d customer time) _ _
-      (if_plainly (is_some (customer.replies site index)) _ _ plain (customer_plain world client (answered d (with_reply d customer site index a) site a) plain))
-      plain
+      if_plainly (is_some (customer.replies site index)) _ _ plain
+      (if_plainly (awaits d customer time) _ _ (customer_plain world client (answered d (with_reply d customer site index a) site a) plain) plain)
 
   -- after a Reply
   reply_plain : (world : World Wire) (client : ℕ) (m : Message) (s : Statement) (signed : Signed) → ArePlain world → Plainly (on_reply d world client m s signed)

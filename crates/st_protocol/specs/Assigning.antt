@@ -17,7 +17,7 @@ use Rattle.st_message.specs.declared.step.Out.TheVariants.{Make}
 use Rattle.st_message.specs.declared.step.Step.{Step}
 use Rattle.st_protocol.specs.Words.{Bytes, Quorum, a_prepare, a_proposal, same_update, same_value}
 use Rattle.st_protocol.specs.Keeping.{given}
-use Rattle.st_protocol.specs.State.{Place, AtPrepare, AtProposal, same_place, Here, Sealing, Share, Slots, Pended}
+use Rattle.st_protocol.specs.State.{Place, AtPrepare, AtProposal, same_place, Here, Sealing, Slots, Pended}
 use Rattle.st_protocol.specs.Step.{Answer, idle, then, making, recording, keeping, putting, when, decides, some_below, first_below, one_if, rep, leader, to_rep, to_site, not_site, other_view, beyond, not_rep, seen, spent, full, complete, is_seen_share, completes, completed, certifies}
 use Rattle.st_protocol.specs.Forced.{Forced, waits, forced_above}
 

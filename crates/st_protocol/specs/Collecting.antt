@@ -1,5 +1,5 @@
 -- Reports of what servers had prepared or accepted, bundles of them, and their unions.
-use Rattle.std.specs.Prelude.{ℕ, ◌+◌, ◌%◌, max, Bool, true, false, cond, nat_eq, nat_le, ◌||◌, not, Option, Some, None, is_some, List, [], ◌∷◌}
+use Rattle.std.specs.Prelude.{ℕ, ◌+◌, ◌%◌, max, Bool, true, false, cond, nat_eq, nat_lt, nat_le, ◌&&◌, ◌||◌, not, Option, Some, None, is_some, List, [], ◌∷◌}
 use Rattle.st_words.specs.declared.deployment.TheConstants.{WINDOW}
 use Rattle.st_words.specs.declared.statement.Item.{Item}
 use Rattle.st_words.specs.declared.statement.Statement.{Statement}
@@ -18,7 +18,7 @@ use Rattle.st_protocol.specs.Words.{Quorum, an_item, a_local_report, a_global_re
 use Rattle.st_protocol.specs.Keeping.{given}
 use Rattle.st_protocol.specs.State.{Term, OfLocal, OfGlobal, report_of, union_of, Here, Sealing, Backed, Share, Slots, Held}
 use Rattle.st_protocol.specs.Step.{Answer, Refused, then, making, recording, keeping, putting, when, decides, count_below, all_below, to_list, servers, quorum, to_rep, to_site, not_site, other_view, not_rep, seen, spent, complete, certifies}
-use Rattle.st_protocol.specs.Forced.{item_at, higher_item}
+use Rattle.st_protocol.specs.Forced.{item_at, item_view, item_local}
 
 -- ---- a server's own report
 
@@ -74,7 +74,7 @@ add_report here kept r =
     (when (nat_le (quorum here) (reports_kept here (with_report kept r)))
     (putting (Send (messages.Bundle (all_below (λ i. to_list (with_report kept r i)) (servers here))) (to_site here)))))
 
--- ---- the union of reports: the highest item of each number above the greatest base, of the first report among equals
+-- ---- the union of reports: the highest item of each number above the greatest base, of the lowest index among equals
 
 -- the view in which a local report was made
 abbrev pub view_in : Statement → ℕ
@@ -98,14 +98,40 @@ unfoldable pub most : (Statement → ℕ) → List ReportBody → ℕ
 most f [] = 0
 most f (r ∷ rs) = max (f r.statement) (most f rs)
 
--- the highest item at n of these reports and of what was found before
-unfoldable pub best_item : ℕ → Option Item → List ReportBody → Option Item
-best_item n best [] = best
-best_item n best (r ∷ rs) = best_item n (higher_item best (item_at n (items_in r.statement))) rs
+-- An item of a report, and the index of the server that made the report.
+pub record Found : Type 0 where
+  pub item : Item
+  pub index : ℕ
+
+-- what the report has at n
+abbrev pub found_in : ℕ → Statement → Option Found
+found_in n s = given (item_at n (items_in s)) None (λ i. Some (record { item = i; index = index_of s }))
+
+-- y is of a higher view than x; or of that view and a higher local view; or of both and a lower index
+abbrev pub precedes : Found → Found → Bool
+precedes y x =
+    nat_lt (item_view x.item) (item_view y.item)
+    || (nat_eq (item_view x.item) (item_view y.item)
+    && (nat_lt (item_local x.item) (item_local y.item) || (nat_eq (item_local x.item) (item_local y.item) && nat_lt y.index x.index)))
+
+-- the one that precedes the other
+abbrev pub better : Option Found → Option Found → Option Found
+better None y = y
+better (Some x) None = Some x
+better (Some x) (Some y) = cond (precedes y x) (Some y) (Some x)
+
+-- the best that these reports have at n
+unfoldable pub best_found : ℕ → List ReportBody → Option Found
+best_found n [] = None
+best_found n (r ∷ rs) = better (found_in n r.statement) (best_found n rs)
+
+-- the highest item at n of these reports, of the lowest index among equals
+abbrev pub best_item : ℕ → List ReportBody → Option Item
+best_item n rs = given (best_found n rs) None (λ f. Some f.item)
 
 -- the highest item of each number above the greatest base
 abbrev pub union_items : List ReportBody → List Item
-union_items rs = all_below (λ k. to_list (best_item (most base_in rs + 1 + k) None rs)) WINDOW
+union_items rs = all_below (λ k. to_list (best_item (most base_in rs + 1 + k) rs)) WINDOW
 
 -- the union of a report's kind, of its site and view
 abbrev pub union_as : Statement → ℕ → ℕ → List Item → Statement

@@ -12,9 +12,10 @@ use Rattle.st_message.specs.declared.log.Ran.{Ran}
 use Rattle.st_message.specs.declared.log.Ran.TheVariants as outcomes
 use Rattle.st_protocol.specs.Words.{Bytes, site_of}
 use Rattle.st_protocol.specs.Keeping.{given, numbered}
-use Rattle.st_protocol.specs.State.{OfLocal, OfGlobal, Here, Answers}
+use Rattle.st_protocol.specs.State.{OfLocal, OfGlobal, Seat, Here, Answers}
 use Rattle.st_protocol.specs.Step.{out_of_window}
 use Rattle.st_protocol.specs.Duty.{sealing_of}
+use Rattle.st_protocol.specs.Known.{knows_statement, knows_quorum, knows_sites, knows_proof}
 
 -- a place of the present views and the window
 abbrev pub is_here : Here → ℕ → ℕ → ℕ → Bool
@@ -44,20 +45,35 @@ may_be_made state (Reply site client time number result) =
     given (numbered state.log.run.entries number.0) false (is_ran client.0 time result)
 may_be_made state (ClientUpdate update) = false
 
--- A change that a server in this state may have recorded next.
-abbrev pub fits : Answers → Change → Bool
-fits state (EnterLocal local q) = nat_lt state.here.local local.0 && nat_le local.0 MOST_VIEW
-fits state (EnterGlobal view sites) = nat_lt state.here.view view.0 && nat_le view.0 MOST_VIEW
-fits state (Made leaf s) =
+-- All sites, indices and clients that a change names are of the deployment, a Prepare's or a Proposal's site leads its
+-- view, and Quorums and words are of exactly 2f+1 servers and a majority of sites.
+abbrev pub knows_change : Seat → Change → Bool
+knows_change seat (EnterLocal local q) = knows_quorum seat.sites seat.f seat.clients q
+knows_change seat (EnterGlobal view words) = knows_sites seat.sites seat.f seat.clients words
+knows_change seat (Made leaf s) = knows_statement seat.sites seat.f seat.clients s
+knows_change seat (Prepared s q) = knows_statement seat.sites seat.f seat.clients s && knows_quorum seat.sites seat.f seat.clients q
+knows_change seat (Accepted s q) = knows_statement seat.sites seat.f seat.clients s && knows_quorum seat.sites seat.f seat.clients q
+knows_change seat (Union s q) = knows_statement seat.sites seat.f seat.clients s && knows_quorum seat.sites seat.f seat.clients q
+knows_change seat (Executed number p) = knows_proof seat.sites seat.f seat.clients p
+
+-- a change that the state may have next, whatever it names
+abbrev pub may_follow : Answers → Change → Bool
+may_follow state (EnterLocal local q) = nat_lt state.here.local local.0 && nat_le local.0 MOST_VIEW
+may_follow state (EnterGlobal view sites) = nat_lt state.here.view view.0 && nat_le view.0 MOST_VIEW
+may_follow state (Made leaf s) =
     nat_eq leaf state.here.leaf
     && nat_lt leaf state.here.seat.capacity
     && nat_eq (site_of s) state.here.seat.site
     && is_none (sealing_of state s)
     && may_be_made state s
-fits state (Prepared (Prepare site view local number value) q) = nat_eq site.0 state.here.seat.site && is_here state.here view.0 local.0 number.0
-fits state (Accepted (Proposal site view local number value) q) = is_here state.here view.0 state.here.local number.0
-fits state (Union (LocalUnion site local greatest base items) q) =
+may_follow state (Prepared (Prepare site view local number value) q) = nat_eq site.0 state.here.seat.site && is_here state.here view.0 local.0 number.0
+may_follow state (Accepted (Proposal site view local number value) q) = is_here state.here view.0 state.here.local number.0
+may_follow state (Union (LocalUnion site local greatest base items) q) =
     nat_eq site.0 state.here.seat.site && nat_eq local.0 state.here.local && is_none (state.unions (OfLocal local.0) site.0)
-fits state (Union (GlobalUnion site view base items) q) = nat_eq view.0 state.here.view && is_none (state.unions (OfGlobal view.0) site.0)
-fits state (Executed number p) = nat_eq number.0 (state.here.executed + 1) && nat_le number.0 LAST_NUMBER
-fits state _ = false
+may_follow state (Union (GlobalUnion site view base items) q) = nat_eq view.0 state.here.view && is_none (state.unions (OfGlobal view.0) site.0)
+may_follow state (Executed number p) = nat_eq number.0 (state.here.executed + 1) && nat_le number.0 LAST_NUMBER
+may_follow state _ = false
+
+-- A change that a server in this state may have recorded next.
+abbrev pub fits : Answers → Change → Bool
+fits state x = knows_change state.here.seat x && may_follow state x

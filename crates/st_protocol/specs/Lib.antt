@@ -18,6 +18,5 @@ pub mod Known
 pub mod World
 pub mod Schedule
 pub mod Certificates
-pub mod Flat
 pub mod Report
 pub mod Plain

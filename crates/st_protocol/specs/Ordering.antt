@@ -15,7 +15,7 @@ use Rattle.st_message.specs.declared.step.Form.TheVariants as forms
 use Rattle.st_message.specs.declared.step.Step.{Step}
 use Rattle.st_protocol.specs.Words.{Quorum, a_proposal, an_accept, a_site_word, same_value}
 use Rattle.st_protocol.specs.Keeping.{given, or_else}
-use Rattle.st_protocol.specs.State.{AtAccept, Here, Share, Slots, Word, Hand}
+use Rattle.st_protocol.specs.State.{AtAccept, Here, Slots, Word, Hand}
 use Rattle.st_protocol.specs.Growth.{hand_takes, hand_cuts}
 use Rattle.st_protocol.specs.Step.{Answer, then, making, recording, decides, count_below, first_below, all_below, majority, to_rep, not_site, other_view, beyond, not_rep, seen, spent, full, is_seen_share, certifies}
 

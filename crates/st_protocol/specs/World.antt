@@ -462,13 +462,12 @@ module _ {Wire : Type 0} (d : Deployment Wire) where
   abbrev pub awaits : Customer → ℕ → Bool
   awaits customer time = customer.waits && nat_eq time customer.time
 
-  -- a Reply to this client, whose seals check
+  -- a Reply to this client, whose seals check: a server whose Reply to the awaited time is kept is seen, whatever its time
   unfoldable pub on_checked_reply : World Wire → ℕ → Customer → ℕ → ℕ → ℕ → Answered → Stepped Wire
   on_checked_reply world client customer site index time a =
-      cond (awaits customer time)
-      (cond (is_some (customer.replies site index)) (stepped world (done.Outcome (Ignored Seen)))
-      (stepped (with_customer world client (answered (with_reply customer site index a) site a)) (done.Outcome Did)))
-      (stepped world (done.Outcome (Ignored (OldTime (awaited customer)))))
+      cond (is_some (customer.replies site index)) (stepped world (done.Outcome (Ignored Seen)))
+      (cond (awaits customer time) (stepped (with_customer world client (answered (with_reply customer site index a) site a)) (done.Outcome Did))
+      (stepped world (done.Outcome (Ignored (OldTime (awaited customer))))))
 
   -- a Reply at a client: another client's is not its own, then its seal is looked at
   abbrev pub on_reply : World Wire → ℕ → Message → Statement → Signed → Stepped Wire

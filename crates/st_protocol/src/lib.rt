@@ -3,11 +3,16 @@
 #![tactic(auto)]
 
 mod answers;
+mod rules;
 mod words;
 mod worlds;
 
 pub use answers::{
     answers_of_longer_lists, answers_that_drop_nothing, answers_that_grow, log_that_runs,
+};
+pub use rules::{
+    prepares_wait_for_unions, quorums_and_majorities_are_enough, reports_leave_nothing_out,
+    restarts_keep_records, unions_heed_no_order, unions_take_the_lowest_index,
 };
 pub use words::tests_of_sameness;
 pub use worlds::{
@@ -29,6 +34,12 @@ mod tests {
         answers_that_drop_nothing();
         log_that_runs();
         tests_of_sameness();
+        quorums_and_majorities_are_enough();
+        prepares_wait_for_unions();
+        reports_leave_nothing_out();
+        unions_heed_no_order();
+        unions_take_the_lowest_index();
+        restarts_keep_records::<Message>();
         messages_passed_read_clean();
         duty_at_a_clean_message::<Message>();
         duty_at_a_clean_message::<Bytes>();

@@ -3,8 +3,13 @@ use Rattle.std.proofs.Common.{ℕ, Bool, true, false, cond, zero, suc, nat_lt, n
 use Rattle.std.specs.Prelude.{Option, Some, None, ◌&&◌, ◌||◌, nat_eq}
 use Rattle.std.specs.Option.{IfSome}
 use Rattle.std.specs.List.{AllByRecursion as Each, flat_map, slice_get}
+use Rattle.st_words.specs.declared.statement.Item.{Item}
+use Rattle.st_message.specs.declared.message.ReportBody.{ReportBody}
+use Rattle.st_protocol.specs.Words.{index_of}
 use Rattle.st_protocol.specs.Keeping.{given, or_else, or_last, greatest, greatest_last, higher, open_if, from, joined}
 use Rattle.st_protocol.specs.Step.{first_below, all_below, to_list}
+use Rattle.st_protocol.specs.Forced.{item_at}
+use Rattle.st_protocol.specs.Collecting.{Found, found_in, precedes, better, best_found, best_item, items_in}
 
 -- of either of two
 pub either : {A : Type 0} (Q : A → Type 0) (b : Bool) (x y : A) → Q x → Q y → Q (cond b x y)
@@ -114,3 +119,25 @@ module _ {A : Type 0} (G : A → Type 0) where
   found_has [] n h = tt
   found_has (x ∷ xs) zero h = h.0
   found_has (x ∷ xs) (suc n) h = found_has xs n h.1
+
+-- ---- of the best of reports
+
+-- of what was found
+abbrev ItemHas : (Item → Type 0) → Option Found → Type 0
+ItemHas G o = IfSome (given o None (λ f. Some f.item)) G
+
+-- of the better
+better_has : (G : Item → Type 0) (x y : Option Found) → ItemHas G x → ItemHas G y → ItemHas G (better x y)
+better_has G None y h k = k
+better_has G (Some x) None h k = h
+better_has G (Some x) (Some y) h k = either (ItemHas G) (precedes y x) (Some y) (Some x) k h
+
+-- What each report's item of a number has, the best of them has.
+pub best_item_has : (G : Item → Type 0) (n : ℕ) (rs : List ReportBody) → Each (λ (r : ReportBody). IfSome (item_at n (items_in r.statement)) G) rs → IfSome (best_item n rs) G
+unfolding best_found
+best_item_has G n [] h = tt
+best_item_has G n (r ∷ rs) h = better_has G (found_in n r.statement) (best_found n rs) (by (item_at n (items_in r.statement)) h.0) (best_item_has G n rs h.1)
+  where
+    by : (o : Option Item) → IfSome o G → ItemHas G (given o None (λ i. Some (record { item = i; index = index_of r.statement })))
+    by None h = tt
+    by (Some i) h = h

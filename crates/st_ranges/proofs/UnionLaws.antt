@@ -20,10 +20,10 @@ use Rattle.st_wire.specs.Ranges.{KeepsBacked, KeepsReport, any_body, after_body,
 use Rattle.st_protocol.specs.Words.{site_of, index_of}
 use Rattle.st_protocol.specs.State.{Term, OfLocal, OfGlobal, at_report, Here}
 use Rattle.st_protocol.specs.Step.{count_below, all_below, to_list, servers, quorum}
-use Rattle.st_protocol.specs.Forced.{item_at, item_view, item_local, higher_item}
+use Rattle.st_protocol.specs.Forced.{item_at}
 use Rattle.st_protocol.specs.Collecting.{reports_kept, view_in, base_in, items_in, most, best_item, union_items, union_as, union}
 use Rattle.st_ranges.specs.Ranges.{ValueInRange, StatementInRange, MessageInRange}
-use Rattle.st_ranges.proofs.ChoiceLaws.{append_all, higher_has}
+use Rattle.st_ranges.proofs.ChoiceLaws.{append_all, best_item_has}
 use Rattle.st_ranges.proofs.RisingLaws.{each_weaker, as_many}
 use Rattle.st_ranges.proofs.StateLaws.{Top, ReportAt}
 use Rattle.st_ranges.proofs.ReportLaws.{AtMostItem, WindowItems, window_below}
@@ -207,19 +207,19 @@ item_found view n (i ∷ is) h = by (nat_eq i.number.0 n) refl (item_found view 
     by false e more = more
 
 -- the highest item of a number
-best_found : (view n : ℕ) (best : Option Item) (rs : List ReportBody) → IfSome best (FoundItem view n) → Each (ItemsUpTo view) rs → IfSome (best_item n best rs) (FoundItem view n)
-unfolding best_item
-best_found view n best [] b h = b
-best_found view n best (r ∷ rs) b h =
-    best_found view n (higher_item best (item_at n (items_in r.statement))) rs
-    (higher_has (FoundItem view n) item_view item_local best (item_at n (items_in r.statement)) b (item_found view n (items_in r.statement) h.0)) h.1
+best_in_range : (view n : ℕ) (rs : List ReportBody) → Each (ItemsUpTo view) rs → IfSome (best_item n rs) (FoundItem view n)
+best_in_range view n rs h = best_item_has (FoundItem view n) n rs (each rs h)
+  where
+    each : (rs : List ReportBody) → Each (ItemsUpTo view) rs → Each (λ (r : ReportBody). IfSome (item_at n (items_in r.statement)) (FoundItem view n)) rs
+    each [] h = tt
+    each (r ∷ rs) h = (item_found view n (items_in r.statement) h.0, each rs h.1)
 
 -- the items of a union
 union_window : (view : ℕ) (rs : List ReportBody) → most base_in rs ≤ most_base → Each (ItemsUpTo view) rs →
     WindowItems (limits_above (most base_in rs) view None) (most base_in rs) 16 (union_items rs)
 union_window view rs few h =
-    window_below (limits_above (most base_in rs) view None) (most base_in rs) (λ k. to_list (best_item (most base_in rs + 1 + k) None rs)) 16 (omega arith)
-    (λ i less. by i less (best_item (most base_in rs + 1 + i) None rs) (best_found view (most base_in rs + 1 + i) None rs tt h))
+    window_below (limits_above (most base_in rs) view None) (most base_in rs) (λ k. to_list (best_item (most base_in rs + 1 + k) rs)) 16 (omega arith)
+    (λ i less. by i less (best_item (most base_in rs + 1 + i) rs) (best_in_range view (most base_in rs + 1 + i) rs h))
   where
     by : (i : ℕ) → i < 16 → (x : Option Item) → IfSome x (FoundItem view (most base_in rs + 1 + i)) → AtMostItem (limits_above (most base_in rs) view None) (most base_in rs + 1 + i) (to_list x)
     by i less None g = tt

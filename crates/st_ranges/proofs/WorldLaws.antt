@@ -44,7 +44,7 @@ use Rattle.st_ranges.proofs.ReportLaws.{SignedInRange}
 use Rattle.st_ranges.proofs.DutyLaws.{duty_in_range}
 
 -- the lists with one body more, and nothing heard
-abbrev ApartInRange : Seat → List (List Change) → List Change → Type 0
+abbrev pub ApartInRange : Seat → List (List Change) → List Change → Type 0
 ApartInRange seat bodies changes = ListsInRange seat (bodies ++ changes ∷ []) []
 
 -- what a server's node holds, and will where a failed event's changes are there after a restart
@@ -53,7 +53,7 @@ pub record NodeInRange (seat : Seat) (node : Node) : Type 0 where
   pub apart : IfSome node.apart (ApartInRange seat node.bodies)
 
 -- nothing is heard any more
-forgets : (seat : Seat) (bodies : List (List Change)) (heard : List Heard) → ListsInRange seat bodies heard → ListsInRange seat bodies []
+pub forgets : (seat : Seat) (bodies : List (List Change)) (heard : List Heard) → ListsInRange seat bodies heard → ListsInRange seat bodies []
 forgets seat bodies heard l = record { changes = l.changes; messages = tt; stands = l.stands; home = tt; few = l.few }
 
 -- ---- a faulty server's messages
@@ -65,7 +65,7 @@ bare_report base items e =
     (sym (eqb-true (length items) 0 parts.1), eqb-true base 0 parts.0)
 
 -- the message over a statement that it sealed
-sealed_message_in_range : (s : Statement) (signed : Signed) → KeepsSealed s → FitsStatement s → SignedInRange signed → MessageInRange (sealed_message s signed)
+pub sealed_message_in_range : (s : Statement) (signed : Signed) → KeepsSealed s → FitsStatement s → SignedInRange signed → MessageInRange (sealed_message s signed)
 sealed_message_in_range (Prepare site view local number value) signed k f g = (((refl, k.0), g.0), (f, g.1))
 sealed_message_in_range (Proposal site view local number value) signed k f g = (((refl, k.0), g.0), (f, g.1))
 sealed_message_in_range (Accept site view number value) signed k f g = (((refl, k.0), g.0), (f, g.1))
@@ -112,7 +112,7 @@ module _ {Wire : Type 0} (d : Deployment Wire) where
 
   module _ (seat : Seat) where
     -- the server after a plan that is handed out
-    settled_in_range : (node : Node) (plan : Plan) → NodeInRange seat node → PlanInRange seat node.bodies node.heard plan → NodeInRange seat (settled d node plan)
+    pub settled_in_range : (node : Node) (plan : Plan) → NodeInRange seat node → PlanInRange seat node.bodies node.heard plan → NodeInRange seat (settled d node plan)
     settled_in_range node plan n p = record { lists = by (is_nil plan.changes) plan.changes refl p.lists; apart = tt }
       where
         by : (b : Bool) (changes : List Change) → is_nil changes ≡ b → ListsInRange seat (node.bodies ++ changes ∷ []) (node.heard ++ plan.heard) →
@@ -121,19 +121,19 @@ module _ {Wire : Type 0} (d : Deployment Wire) where
         by false changes e l = l
 
     -- whose journal is full
-    full_in_range : (node : Node) → NodeInRange seat node → NodeInRange seat (stands_full d node)
+    pub full_in_range : (node : Node) → NodeInRange seat node → NodeInRange seat (stands_full d node)
     full_in_range node n = record { lists = n.lists; apart = tt }
 
     -- that stopped
-    stopped_in_range : (node : Node) (changes : List Change) → NodeInRange seat node → ApartInRange seat node.bodies changes → NodeInRange seat (stands_stopped d node changes)
+    pub stopped_in_range : (node : Node) (changes : List Change) → NodeInRange seat node → ApartInRange seat node.bodies changes → NodeInRange seat (stands_stopped d node changes)
     stopped_in_range node changes n h = record { lists = n.lists; apart = either_has (ApartInRange seat node.bodies) (nat_eq node.stop 4) (Some changes) None h tt }
 
     -- that is set to stop
-    stop_in_range : (node : Node) (call : ℕ) → NodeInRange seat node → NodeInRange seat (set_to_stop node call)
+    pub stop_in_range : (node : Node) (call : ℕ) → NodeInRange seat node → NodeInRange seat (set_to_stop node call)
     stop_in_range node call n = record { lists = n.lists; apart = n.apart }
 
     -- that starts again
-    restarted_in_range : (node : Node) (kept : Bool) → NodeInRange seat node → NodeInRange seat (restarted d node kept)
+    pub restarted_in_range : (node : Node) (kept : Bool) → NodeInRange seat node → NodeInRange seat (restarted d node kept)
     restarted_in_range node kept n =
         chosen (ApartInRange seat node.bodies) (NodeInRange seat) (cond kept node.apart None)
         (record { bodies = node.bodies; heard = []; stand = Running; stop = 0; apart = None; bytes = node.bytes })
@@ -145,7 +145,7 @@ module _ {Wire : Type 0} (d : Deployment Wire) where
   -- ---- the small changes of a world
 
   -- a server is changed
-  node_in_range : (world : World Wire) (site index : ℕ) (node : Node) → NodeInRange (seat_of d site index) node → WorldInRange world → WorldInRange (with_node world site index node)
+  pub node_in_range : (world : World Wire) (site index : ℕ) (node : Node) → NodeInRange (seat_of d site index) node → WorldInRange world → WorldInRange (with_node world site index node)
   unfolding with_node
   node_in_range world site index node n w = record { nodes = λ s i. by s i (nat_eq site s && nat_eq index i) refl; sent = w.sent }
     where
@@ -156,7 +156,7 @@ module _ {Wire : Type 0} (d : Deployment Wire) where
       by s i false e = w.nodes s i
 
   -- a client is changed
-  customer_in_range : (world : World Wire) (client : ℕ) (customer : Customer) → WorldInRange world → WorldInRange (with_customer world client customer)
+  pub customer_in_range : (world : World Wire) (client : ℕ) (customer : Customer) → WorldInRange world → WorldInRange (with_customer world client customer)
   unfolding with_customer
   customer_in_range world client customer w = record { nodes = w.nodes; sent = w.sent }
 
@@ -166,7 +166,7 @@ module _ {Wire : Type 0} (d : Deployment Wire) where
   waiting_in_range world pairs w = record { nodes = w.nodes; sent = w.sent }
 
   -- the world ends
-  ends_in_range : (world : World Wire) (fault : Option Fault) → WorldInRange world → WorldInRange (ends world fault)
+  pub ends_in_range : (world : World Wire) (fault : Option Fault) → WorldInRange world → WorldInRange (ends world fault)
   unfolding ends
   ends_in_range world fault w = record { nodes = w.nodes; sent = w.sent }
 
@@ -176,12 +176,12 @@ module _ {Wire : Type 0} (d : Deployment Wire) where
   uses_in_range world site index w = record { nodes = w.nodes; sent = w.sent }
 
   -- a seal is handed out
-  hands_in_range : (world : World Wire) (who : Who) (leaf : ℕ) (s : Statement) → WorldInRange world → WorldInRange (hands world who leaf s)
+  pub hands_in_range : (world : World Wire) (who : Who) (leaf : ℕ) (s : Statement) → WorldInRange world → WorldInRange (hands world who leaf s)
   unfolding hands
   hands_in_range world who leaf s w = record { nodes = w.nodes; sent = w.sent }
 
   -- a message is sent
-  sends_in_range : (world : World Wire) (m : Message) (to : List Dest) → MessageInRange m → WorldInRange world → WorldInRange (sends_to d world (d.formats.encode m) to)
+  pub sends_in_range : (world : World Wire) (m : Message) (to : List Dest) → MessageInRange m → WorldInRange world → WorldInRange (sends_to d world (d.formats.encode m) to)
   unfolding sends_to
   sends_in_range world m to h w =
       record { nodes = w.nodes; sent = append_all (IsEncoded d) world.sent (d.formats.encode m ∷ []) w.sent (record { message = m; spells = refl; inside = h }, tt) }
@@ -204,7 +204,7 @@ module _ {Wire : Type 0} (d : Deployment Wire) where
   one_in_range site index world o h w = sends_in_range (notes_seal d site index world o) o.message (dests_of d o.to) h (notes_in_range site index world o w)
 
   -- messages of a server's are handed out
-  out_in_range : (site index : ℕ) (world : World Wire) (outputs : List Output) → Each OutputInRange outputs → WorldInRange world → WorldInRange (hands_out d site index world outputs)
+  pub out_in_range : (site index : ℕ) (world : World Wire) (outputs : List Output) → Each OutputInRange outputs → WorldInRange world → WorldInRange (hands_out d site index world outputs)
   out_in_range site index world [] h w = w
   out_in_range site index world (o ∷ os) h w = out_in_range site index (hands_one d site index world o) os h.1 (one_in_range site index world o h.0 w)
 
@@ -250,8 +250,8 @@ module _ {Wire : Type 0} (d : Deployment Wire) where
       WorldAfter (on_checked_reply d world client customer site index time a)
   unfolding on_checked_reply
   checked_in_range world client customer site index time a w =
-      either WorldAfter (awaits d customer time) _ _
-      (either WorldAfter (is_some (customer.replies site index)) _ _ w (customer_in_range world client (answered d (with_reply d customer site index a) site a) w)) w
+      either WorldAfter (is_some (customer.replies site index)) _ _ w
+      (either WorldAfter (awaits d customer time) _ _ (customer_in_range world client (answered d (with_reply d customer site index a) site a) w) w)
 
   -- at a client
   reply_in_range : (world : World Wire) (client : ℕ) (m : Message) (s : Statement) (signed : Signed) → WorldInRange world → WorldAfter (on_reply d world client m s signed)
@@ -389,7 +389,7 @@ module _ {Wire : Type 0} (d : Deployment Wire) where
     -- ---- a faulty server's seal
 
     -- the client's own seal, where there is one
-    client_seal_short : (world : World Wire) (v : Value) → ValueInRange v → length (client_seal_of d world v) ≤ most_client_seal v
+    pub client_seal_short : (world : World Wire) (v : Value) → ValueInRange v → length (client_seal_of d world v) ≤ most_client_seal v
     client_seal_short world values.Noop v = omega arith
     client_seal_short world (values.Update u) v =
         either (λ (seal : Bytes). length seal ≤ most_seal) (has_made world.made (parties.Client u.client) (ClientUpdate u)) _ []
@@ -404,7 +404,7 @@ module _ {Wire : Type 0} (d : Deployment Wire) where
     assigns_in_range world _ signed s g w = w
 
     -- a statement is sealed
-    faulty_in_range : (world : World Wire) (site index : ℕ) (s : Statement) → index < 2 ^ 8 → KeepsSealed s → FitsStatement s → WorldInRange world → WorldAfter (seals d world site index s)
+    pub faulty_in_range : (world : World Wire) (site index : ℕ) (s : Statement) → index < 2 ^ 8 → KeepsSealed s → FitsStatement s → WorldInRange world → WorldAfter (seals d world site index s)
     unfolding seals
     faulty_in_range world site index s at k f w =
         let signed : Signed = record { index = index; seal = d.formats.seal (server_at site index) (world.leaves site index) s } in

@@ -22,7 +22,7 @@ use Rattle.st_fields.specs.declared.error.WordsError.{WordsError}
 use Rattle.st_config.specs.Built.{IsBuilt}
 use Rattle.st_config.specs.Taken.{IsTaken}
 use Rattle.st_replay.specs.Lines.{events_in}
-use Rattle.st_promises.proofs.PromiseLaws.{always_keeps}
+use Rattle.st_promises.proofs.DeployedLaws.{taken_keeps}
 
 pub usage_answered : IsAnswered usage.status
 unfolding usage
@@ -157,5 +157,5 @@ built_events (x ∷ xs) built =
 pub input_promises : (r : Result Answer WordsError) (bytes : List ℕ) (input : Input) → input_of bytes ≡ Ok input → IsTaken input.deployment → All (λ x. IsBuilt x.line) input.lines
     → IfOk r (λ answer. answer.status ≡ statuses.Ok → IsPromised bytes)
 input_promises (Ok answer) bytes input spells taken built =
-    λ ok. record { input = input; spells = spells; keeps = always_keeps input.deployment (events_in input.lines) taken (built_events input.lines built) }
+    λ ok. record { input = input; spells = spells; keeps = taken_keeps input.deployment (events_in input.lines) taken (built_events input.lines built) }
 input_promises (Err error) bytes input spells taken built = tt

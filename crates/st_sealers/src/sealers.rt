@@ -4,12 +4,12 @@ ghost use Rattle.st_seal.specs.Scheme.{Scheme};
 ghost use Rattle.st_hss_seal.specs.Sealers.{scheme_in, pen_of};
 ghost use Rattle.st_hss_seal.specs.Sealing.{pen_in};
 ghost use Rattle.st_protocol.specs.Words.{client_at};
-ghost use Rattle.st_server.specs.Sealing.{pen_by};
+ghost use Rattle.st_sealing.specs.Sealing.{pen_by};
 ghost use Rattle.st_sealers.specs.Keeping.{KeepsSealers};
 
 use st_fields::{Bytes, WordsError};
 use st_hss_seal::{DeploymentSeals, PartySealer};
-use st_server::seal_statement;
+use st_sealing::seal_statement;
 use st_words::{ClientId, Statement, Who};
 use std::alloc::Global;
 

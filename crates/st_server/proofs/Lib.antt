@@ -1,5 +1,4 @@
 -- Lemmas.
-pub mod SealingLaws
 pub mod FirstLaws
 pub mod BoundLaws
 pub mod DrawLaws

@@ -9,7 +9,7 @@ use Rattle.st_seal.specs.Keyed.{sealed_by}
 use Rattle.st_message.specs.declared.message.Message.{Message}
 use Rattle.st_protocol.specs.World.{Formats, Deployment, deployment_of, is_listed, passed}
 use Rattle.st_live.specs.Service.{list_serve}
-use Rattle.st_server.specs.Sealing.{sealed_bytes}
+use Rattle.st_sealing.specs.Sealing.{sealed_bytes}
 use Rattle.st_server.specs.Serving.{knows_sender_of}
 
 -- the keyed seal of a party, with a leaf, over what is sealed of a statement

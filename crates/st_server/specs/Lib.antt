@@ -1,6 +1,5 @@
 -- The definitions that contracts cite.
 pub mod Bounds
-pub mod Sealing
 pub mod Replying
 pub mod Ready
 pub mod Draw

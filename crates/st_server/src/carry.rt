@@ -19,7 +19,7 @@ ghost use Rattle.st_server.specs.Replying as replying;
 ghost use Rattle.st_server.specs.LiveReplies.{live_replies};
 ghost use Rattle.st_server.specs.Replying.{reply_by, IsReplyAt};
 ghost use Rattle.st_words.specs.declared.deployment.TheConstants.{LAST_NUMBER as most_number};
-ghost use Rattle.st_server.specs.Sealing.{pen_by};
+ghost use Rattle.st_sealing.specs.Sealing.{pen_by};
 ghost use Rattle.st_server.specs.Draw.{Draws, IsDrawn};
 
 use crate::draft::Draft;

@@ -18,10 +18,9 @@ ghost use Rattle.st_live.specs.LiveView.{place_here, IsLive};
 ghost use Rattle.st_server.specs.Bounds.{IsSound};
 ghost use Rattle.st_server.specs.Ready.{may_record, may_keep, is_ready, are_ready};
 ghost use Rattle.st_server.specs.Replying.{reply_by, leaf_in, reply_leaf_in};
-ghost use Rattle.st_server.specs.Sealing.{pen_by};
+ghost use Rattle.st_sealing.specs.Sealing.{pen_by};
 ghost use Rattle.st_server.specs.Draw.{Draws, IsDrawn};
 
-use crate::sealing::seal_statement;
 use st_fields::{Bytes, Copied, Seq, WordsError};
 use st_live::Live;
 use st_message::{
@@ -29,6 +28,7 @@ use st_message::{
     ReportBody, Scope, Sealing, Step,
 };
 use st_seal::{Sealer, Signed};
+use st_sealing::seal_statement;
 use st_shares::{Slot, made_accept, made_prepare, made_proposal};
 use st_tables::Table;
 use st_words::{ClientId, LocalView, Number, SiteId, Statement, Update, Value, View};

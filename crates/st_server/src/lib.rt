@@ -4,12 +4,10 @@
 mod carry;
 mod draft;
 mod parts;
-mod sealing;
 mod server;
 #[cfg(test)]
 mod tests;
 
 pub use draft::Draft;
 pub use parts::answer_to;
-pub use sealing::seal_statement;
 pub use server::{Planned, Server};

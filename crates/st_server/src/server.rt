@@ -13,7 +13,7 @@ ghost use Rattle.st_state.specs.HereView.{seat_of};
 ghost use Rattle.st_live.specs.Service.{list_serve};
 ghost use Rattle.st_server.specs.Bounds.{IsSeat, IsLowStep};
 ghost use Rattle.st_server.specs.Fresh.{IsFresh};
-ghost use Rattle.st_server.specs.Sealing.{pen_by};
+ghost use Rattle.st_sealing.specs.Sealing.{pen_by};
 ghost use Rattle.st_server.specs.Serving as serving;
 ghost use Rattle.st_server.specs.Serving.{seat_by, StandsBy, Stands, IsServing, knows_sender, plan_by_message, Leads};
 

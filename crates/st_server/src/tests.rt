@@ -10,8 +10,7 @@ use st_fields::{Bytes, Seq, WordsError};
 use st_message::{Here, Message};
 use st_seal::{KeyedSealer, KeyedSeals, Sealer};
 use st_words::{
-    ClientId, Deployment, LocalView, Number, SealKind, ServerId, ServiceKind, SiteId, Statement,
-    Update, Value, View, Who,
+    ClientId, Deployment, LocalView, SealKind, ServerId, ServiceKind, Update, View, Who,
 };
 use std::alloc::Global;
 use std::process::Abort;
@@ -56,46 +55,12 @@ fn deployment(alloc: Global) -> Deployment {
     }
 }
 
-fn prepare() -> Statement {
-    Statement::Prepare {
-        site: SiteId(0),
-        view: View(0),
-        local: LocalView(0),
-        number: Number(1),
-        value: Value::Noop,
-    }
-}
-
-// The seal of scripts/keyed_seals.py.
-const SEAL: [u8; 36] = [
-    0x00, 0x00, 0x00, 0x03, 0x99, 0x4d, 0x10, 0xc9, 0xcf, 0x4a, 0x56, 0x5d, 0x4a, 0xc4, 0xca, 0x9b,
-    0x02, 0xb0, 0x3f, 0x36, 0x33, 0x92, 0xa3, 0xf7, 0x4f, 0x87, 0xbe, 0x38, 0xc2, 0x6b, 0x10, 0x62,
-    0x07, 0xd2, 0xad, 0xa7,
-];
-
-fn seal_with(alloc: Global, sealer: &mut KeyedSealer) -> Result<Bytes, Fail> {
-    let mut seal = Seq::new(alloc);
-    if sealer.capacity() > 3 {
-        seal = seal_statement(alloc, sealer, 7, 3, &prepare())?;
-    }
-    Ok(seal)
-}
-
 // The sealer of the deployment's first server.
 fn sealer(alloc: Global, rt: &impl Abort) -> Result<KeyedSealer, Fail> {
     let seals = KeyedSeals::new(&deployment(alloc));
     let who = Who::Server(ServerId { site: 0, index: 0 });
     assert!(rt; seals.has(who));
     Ok(seals.sealer(who))
-}
-
-#[test]
-fn a_prepare_is_sealed(rt: HostRuntime) -> Result<(), Fail> {
-    let alloc = rt.alloc();
-    let mut sealer = sealer(alloc, &rt)?;
-    let seal = seal_with(alloc, &mut sealer)?;
-    assert_eq!(rt; seal.as_slice(), SEAL.as_slice());
-    Ok(())
 }
 
 fn text(alloc: Global) -> Result<Bytes, WordsError> {

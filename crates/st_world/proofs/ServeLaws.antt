@@ -31,7 +31,7 @@ use Rattle.st_ranges.specs.Ranges.{MessageInRange, ReadingInRange, OutputInRange
 use Rattle.st_ranges.proofs.DutyLaws.{duty_in_range}
 use Rattle.st_config.specs.Taken.{IsTaken}
 use Rattle.st_server.specs.declared.server.Server.{Server}
-use Rattle.st_server.specs.Sealing.{pen_by, sealed_bytes}
+use Rattle.st_sealing.specs.Sealing.{pen_by, sealed_bytes}
 use Rattle.st_server.specs.Serving.{seat_by, StandsBy, Stands, plan_by_message, read_sender, knows_sender}
 use Rattle.st_server.proofs.ServeLaws.{same_joined}
 use Rattle.st_deployment.specs.Deployed.{statement_seal, world_deployment}

@@ -21,7 +21,7 @@ use Rattle.st_protocol.specs.World as model
 use Rattle.st_protocol.specs.World.{Customer, Stepped, stepped, capacity_of, with_customer, hands, sends_to, dests_of}
 use Rattle.st_protocol.specs.Schedule.{submits}
 use Rattle.st_client.specs.Customers.{asks_next}
-use Rattle.st_server.specs.Sealing.{pen_by, sealed_bytes}
+use Rattle.st_sealing.specs.Sealing.{pen_by, sealed_bytes}
 use Rattle.st_deployment.specs.Deployed.{statement_seal, world_deployment}
 use Rattle.st_deployment.proofs.SetLaws.{capacity_same, capacity_few, choice_of}
 use Rattle.st_deployment.proofs.SealLengths.{seals_keep}

@@ -3,7 +3,7 @@ use Rattle.std.proofs.Common.{◌≡◌, ℕ, List, [], refl}
 use Rattle.st_protocol.specs.World.{BadReference}
 use Rattle.st_run.specs.Example.{idle_rows, rows_passed, small_deployment, small_input, small_lines, small_rows}
 use Rattle.st_protocol.specs.Assigning.{fill, fill_number, fills}
-use Rattle.st_protocol.specs.Collecting.{best_item, most, union}
+use Rattle.st_protocol.specs.Collecting.{best_found, most, union}
 use Rattle.st_protocol.specs.Duty.{begins, carries, carries_change, course, emits, fills_up, keeps, makes, plan_of, plan_of_message, puts, records, replies, reports, reports_as, tick_out}
 use Rattle.st_protocol.specs.Forced.{forced_of, greatest_base, highest_item, item_at, sites_held}
 use Rattle.st_protocol.specs.Growth.{after, cuts, grown, hears, notes, nothing, takes}
@@ -23,11 +23,11 @@ use Rattle.st_replay.specs.Replay.{Ended, replay_of}
 use Rattle.st_run.proofs.example.a_small_world.Goals as goal
 
 comes_to_rows : (id : ℕ) (seed : List ℕ) → rows_passed (small_deployment id seed) (small_lines 0) ≡ small_rows id
-unfolding fill fill_number fills best_item most union begins carries carries_change course emits fills_up keeps makes plan_of plan_of_message puts records replies reports reports_as tick_out forced_of greatest_base highest_item item_at sites_held after cuts grown hears notes nothing takes gathered joined executions in_hand executed_in executed_values here_of proofs_in questions runs came_from client_row client_rows done_words rows_of server_row server_rows dones drops flows flows_first has_pair seals step submits then_assigns without agreeing all_below complete count_below first_below quorum_of some_below same_items same_statement comes_to delivers empty ends first_bad fresh_customer fresh_node hands hands_one has_handed has_made is_listed notes_seal on_checked_reply pairs_to sends_to sent_size serves uses_leaf with_customer with_node with_waiting list_serve keyed_seals world_deployment
+unfolding fill fill_number fills best_found most union begins carries carries_change course emits fills_up keeps makes plan_of plan_of_message puts records replies reports reports_as tick_out forced_of greatest_base highest_item item_at sites_held after cuts grown hears notes nothing takes gathered joined executions in_hand executed_in executed_values here_of proofs_in questions runs came_from client_row client_rows done_words rows_of server_row server_rows dones drops flows flows_first has_pair seals step submits then_assigns without agreeing all_below complete count_below first_below quorum_of some_below same_items same_statement comes_to delivers empty ends first_bad fresh_customer fresh_node hands hands_one has_handed has_made is_listed notes_seal on_checked_reply pairs_to sends_to sent_size serves uses_leaf with_customer with_node with_waiting list_serve keyed_seals world_deployment
 comes_to_rows id seed = refl
 
 comes_to_rest : (id : ℕ) (seed : List ℕ) → rows_passed (small_deployment id seed) [] ≡ idle_rows id
-unfolding fill fill_number fills best_item most union begins carries carries_change course emits fills_up keeps makes plan_of plan_of_message puts records replies reports reports_as tick_out forced_of greatest_base highest_item item_at sites_held after cuts grown hears notes nothing takes gathered joined executions in_hand executed_in executed_values here_of proofs_in questions runs came_from client_row client_rows done_words rows_of server_row server_rows dones drops flows flows_first has_pair seals step submits then_assigns without agreeing all_below complete count_below first_below quorum_of some_below same_items same_statement comes_to delivers empty ends first_bad fresh_customer fresh_node hands hands_one has_handed has_made is_listed notes_seal on_checked_reply pairs_to sends_to sent_size serves uses_leaf with_customer with_node with_waiting list_serve keyed_seals world_deployment
+unfolding fill fill_number fills best_found most union begins carries carries_change course emits fills_up keeps makes plan_of plan_of_message puts records replies reports reports_as tick_out forced_of greatest_base highest_item item_at sites_held after cuts grown hears notes nothing takes gathered joined executions in_hand executed_in executed_values here_of proofs_in questions runs came_from client_row client_rows done_words rows_of server_row server_rows dones drops flows flows_first has_pair seals step submits then_assigns without agreeing all_below complete count_below first_below quorum_of some_below same_items same_statement comes_to delivers empty ends first_bad fresh_customer fresh_node hands hands_one has_handed has_made is_listed notes_seal on_checked_reply pairs_to sends_to sent_size serves uses_leaf with_customer with_node with_waiting list_serve keyed_seals world_deployment
 comes_to_rest id seed = refl
 
 -- (in the world of bytes)

@@ -4,7 +4,7 @@ use Rattle.st_seal.specs.Pen.{Pen}
 use Rattle.st_tables.specs.Entries.{entry}
 use Rattle.st_protocol.specs.Duty.{Course, carries, carries_changes, keeps_all, emits_all}
 use Rattle.st_server.specs.Draw.{Draws}
-use Rattle.st_server.specs.Sealing.{pen_by}
+use Rattle.st_sealing.specs.Sealing.{pen_by}
 use Rattle.st_server.proofs.draft.Draft.carry.Goals as goal
 
 pub returns-clause-draws : goal.returns-clause-draws

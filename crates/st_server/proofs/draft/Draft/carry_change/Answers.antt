@@ -6,7 +6,7 @@ use Rattle.st_protocol.specs.Growth.{here_after}
 use Rattle.st_live.specs.LiveView.{place_here}
 use Rattle.st_server.specs.Draw.{Draws}
 use Rattle.st_server.specs.Ready.{is_ready}
-use Rattle.st_server.specs.Sealing.{pen_by}
+use Rattle.st_sealing.specs.Sealing.{pen_by}
 use Rattle.st_server.proofs.CarryLaws.{carried_alone, ready_executed, ready_next, alike_same, capacity_stays}
 use Rattle.st_server.proofs.draft.Draft.carry_change.Goals as goal
 

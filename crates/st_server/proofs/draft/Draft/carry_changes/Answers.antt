@@ -5,7 +5,7 @@ use Rattle.st_message.specs.declared.change.Change.{Change}
 use Rattle.st_tables.specs.Entries.{entry}
 use Rattle.st_protocol.specs.Duty.{Course, carries_change}
 use Rattle.st_server.specs.Draw.{Draws}
-use Rattle.st_server.specs.Sealing.{pen_by}
+use Rattle.st_sealing.specs.Sealing.{pen_by}
 use Rattle.st_server.specs.Carried.{IsCarried}
 use Rattle.st_server.proofs.LoopLaws.{taken_next, dropped_next, carried_more}
 use Rattle.st_server.proofs.draft.Draft.carry_changes.Goals as goal

@@ -1,7 +1,7 @@
 -- The changes so far are carried out, and the others may be.
 use Rattle.std.proofs.Common.{◌≡◌, take, drop}
 use Rattle.st_tables.specs.Entries.{entry}
-use Rattle.st_server.specs.Sealing.{pen_by}
+use Rattle.st_sealing.specs.Sealing.{pen_by}
 use Rattle.st_server.specs.Carried.{IsCarried}
 use Rattle.st_server.proofs.draft.Draft.carry_changes.Given as goal
 

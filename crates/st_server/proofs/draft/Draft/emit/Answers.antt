@@ -3,7 +3,7 @@ use Rattle.std.proofs.Common.{refl}
 use Rattle.st_tables.specs.Entries.{entry}
 use Rattle.st_protocol.specs.Duty.{Course}
 use Rattle.st_server.specs.Draw.{Draws}
-use Rattle.st_server.specs.Sealing.{pen_by}
+use Rattle.st_sealing.specs.Sealing.{pen_by}
 use Rattle.st_server.proofs.EmitLaws.{draws_emit, drawn_emit}
 use Rattle.st_server.proofs.draft.Draft.emit.Goals as goal
 

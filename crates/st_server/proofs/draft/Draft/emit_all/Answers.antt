@@ -5,7 +5,7 @@ use Rattle.st_message.specs.declared.step.Out.{Out}
 use Rattle.st_protocol.specs.Duty.{Course, emits}
 use Rattle.st_server.specs.Draw.{Draws}
 use Rattle.st_tables.specs.Entries.{entry}
-use Rattle.st_server.specs.Sealing.{pen_by}
+use Rattle.st_sealing.specs.Sealing.{pen_by}
 use Rattle.st_server.specs.Carried.{AreEmitted}
 use Rattle.st_server.proofs.LoopLaws.{taken_next, emitted_more}
 use Rattle.st_server.proofs.draft.Draft.emit_all.Goals as goal

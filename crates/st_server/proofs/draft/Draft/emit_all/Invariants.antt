@@ -1,7 +1,7 @@
 -- What goes out so far went out.
 use Rattle.std.proofs.Common.{◌≡◌, take}
 use Rattle.st_tables.specs.Entries.{entry}
-use Rattle.st_server.specs.Sealing.{pen_by}
+use Rattle.st_sealing.specs.Sealing.{pen_by}
 use Rattle.st_server.specs.Carried.{AreEmitted}
 use Rattle.st_server.proofs.draft.Draft.emit_all.Given as goal
 

@@ -10,7 +10,7 @@ use Rattle.st_protocol.specs.Duty.{records}
 use Rattle.st_live.specs.LiveView.{place_here}
 use Rattle.st_server.specs.Draw.{Draws}
 use Rattle.st_server.specs.Ready.{may_record}
-use Rattle.st_server.specs.Sealing.{pen_by}
+use Rattle.st_sealing.specs.Sealing.{pen_by}
 use Rattle.st_server.proofs.CarryLaws.{carried_execution, sites_known, leaf_stays, placed_of}
 use Rattle.st_server.proofs.draft.Draft.execute.Goals as goal
 

@@ -4,7 +4,7 @@ use Rattle.st_message.specs.declared.step.Step.{Step}
 use Rattle.st_tables.specs.Entries.{entry}
 use Rattle.st_protocol.specs.Duty.{carries, fills_up}
 use Rattle.st_server.specs.Draw.{Draws}
-use Rattle.st_server.specs.Sealing.{pen_by}
+use Rattle.st_sealing.specs.Sealing.{pen_by}
 use Rattle.st_server.proofs.draft.Draft.fill_up.Goals as goal
 
 pub returns-clause-draws : goal.returns-clause-draws

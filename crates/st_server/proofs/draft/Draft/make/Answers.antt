@@ -5,7 +5,7 @@ use Rattle.st_words.specs.declared.statement.Statement.{Statement}
 use Rattle.st_tables.specs.Entries.{entry}
 use Rattle.st_protocol.specs.Duty.{records}
 use Rattle.st_server.specs.Draw.{Draws}
-use Rattle.st_server.specs.Sealing.{pen_by}
+use Rattle.st_sealing.specs.Sealing.{pen_by}
 use Rattle.st_server.proofs.CarryLaws.{makes_is}
 use Rattle.st_server.proofs.draft.Draft.make.Goals as goal
 

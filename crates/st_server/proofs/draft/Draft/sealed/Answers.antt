@@ -4,7 +4,7 @@ use Rattle.st_seal.specs.declared.quorum.Signed.{Signed}
 use Rattle.st_message.specs.declared.message.Message.{Message}
 use Rattle.st_tables.specs.Entries.{entry}
 use Rattle.st_protocol.specs.Duty.{message_of, sealed}
-use Rattle.st_server.specs.Sealing.{pen_by}
+use Rattle.st_sealing.specs.Sealing.{pen_by}
 use Rattle.st_server.proofs.EmitLaws.{leaf_below, sealed_is}
 use Rattle.st_server.proofs.draft.Draft.sealed.Goals as goal
 

@@ -7,7 +7,7 @@ use Rattle.st_protocol.specs.Duty.{Course, begins, carries, fills_up}
 use Rattle.st_live.specs.declared.live.Live.{Live}
 use Rattle.st_live.specs.LiveView.{IsLive}
 use Rattle.st_server.specs.Draw.{Draws}
-use Rattle.st_server.specs.Sealing.{pen_by}
+use Rattle.st_sealing.specs.Sealing.{pen_by}
 use Rattle.st_server.specs.Serving.{seat_by}
 use Rattle.st_server.proofs.ServeLaws.{begun, did_is, leads_is}
 use Rattle.st_server.proofs.server.Server.carried_out.Goals as goal

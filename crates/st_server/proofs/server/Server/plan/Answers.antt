@@ -4,7 +4,7 @@ use Rattle.st_message.specs.declared.step.Refused as refusals
 use Rattle.st_protocol.specs.Part as part
 use Rattle.st_protocol.specs.Duty.{of_message}
 use Rattle.st_protocol.specs.Step.{Refused, Steps}
-use Rattle.st_server.specs.Sealing.{pen_by}
+use Rattle.st_sealing.specs.Sealing.{pen_by}
 use Rattle.st_server.specs.Serving.{seat_by}
 use Rattle.st_server.proofs.LowLaws.{low_answer}
 use Rattle.st_server.proofs.ServeLaws.{unknown_plan, known_plan, ignored_leads}

@@ -1,0 +1,3 @@
+-- Lemmas.
+pub mod NumberLaws
+pub mod FlatRunLaws

@@ -1,0 +1,3 @@
+-- Lemmas.
+pub mod EachLaws
+pub mod RangesLaws
