@@ -1,77 +1,30 @@
 -- The example is a run.
-use Rattle.std.proofs.Common.{◌≡◌, ℕ, ◌<◌, ◌≤◌, ◌++◌, true, IsTrue, List, [], ◌∷◌, length, refl, sym, ◌∙◌, ap, subst, inl, inr, ⊎_elim, arith}
+use Rattle.std.proofs.Common.{◌≡◌, ℕ, ◌<◌, ◌≤◌, ◌++◌, true, IsTrue, List, [], ◌∷◌, refl, sym, ◌∙◌, ap, subst, inl, inr, ⊎_elim, arith}
 use Rattle.st_words.specs.declared.statement.Item.{Item}
 use Rattle.st_words.specs.declared.statement.Statement.{Statement}
 use Rattle.st_words.specs.declared.statement.Statement.TheVariants.{Accept}
 use Rattle.st_message.specs.declared.change.Change.TheVariants.{EnterGlobal, Made}
 use Rattle.st_counts.specs.Counts.{Has}
 use Rattle.st_registers.specs.Steps.{IsRun}
-use Rattle.st_agreement.specs.Example.{three, value, item, union, empty_union, order_proof, Move, Asks, Records, Hands, play, plays, after, view_0, change, view_1, moves}
-use Rattle.st_agreement.specs.MiniSteps.{HasExecuted, MiniStep, records, hands, asks, Backed, IsCurrent, with_record, with_made, first}
+use Rattle.st_agreement.specs.Example.{three, item, union, empty_union, view_0, change, view_1, executes, moves}
+use Rattle.st_agreement.specs.ExampleMoves.{value, order_proof, Move, Records, plays, after}
+use Rattle.st_agreement.specs.MiniSteps.{HasExecuted, HasMaker, MiniStep, with_record, with_made, first}
 use Rattle.st_agreement.specs.Records.{made_of, unions_of, view_of}
-use Rattle.st_agreement.specs.Rules.{Allowed, SiteUnion, HeldSites, ForcedBySites}
+use Rattle.st_agreement.specs.Rules.{MakesPrepare, SiteUnion, HeldSites, ForcedBySites}
 use Rattle.st_agreement.specs.Sites.{AreSites, leader}
 use Rattle.st_agreement.specs.Statements.{prepare, proposal, accept, global_union, is_proposal, view_in}
 use Rattle.st_agreement.specs.Unions.{IsGlobalUnion}
 use Rattle.st_agreement.specs.Worlds.{World, stands}
+use Rattle.st_agreement.proofs.MoveLaws.{CanPlayAll, plays-run, parts-can, after-among}
 
--- what a move needs in a world
-abbrev pub CanPlay : World → Move → Type 0
-CanPlay w (Asks u) = Unit {0}
-CanPlay w (Records s c) = (s < 3) × (Allowed three s c (w.records s 0) × Backed three w s c)
-CanPlay w (Hands s t) = (s < 3) × (Has t (made_of (w.records s 0)) × IsCurrent t (w.records s 0))
-
--- what moves one after the other need
-abbrev pub CanPlayAll : World → List Move → Type 0
-CanPlayAll w [] = Unit {0}
-CanPlayAll w (m ∷ ms) = CanPlay w m × CanPlayAll (play w m) ms
-
--- such a move is a mini-step
-play-step : (w : World) (m : Move) → CanPlay w m → MiniStep three w (play w m)
-play-step w (Asks u) can = asks u refl
-play-step w (Records s c) can =
-    records (record { site = s; server = 0; change = c; exists = can.0; correct = inl refl; allowed = can.1.0; backed = can.1.1; next = refl })
-play-step w (Hands s t) can =
-    hands (record { site = s; server = 0; statement = t; exists = can.0; correct = inl refl; recorded = can.1.0; current = can.1.1; next = refl })
-
--- such moves are a run
-plays-run : (w : World) (ms : List Move) → CanPlayAll w ms → IsRun (MiniStep three) w (plays w ms)
-plays-run w [] can = tt
-plays-run w (m ∷ ms) can = (play-step w m can.0, plays-run (play w m) ms can.1)
-
--- moves after moves
-both : (w : World) (ms ns : List Move) → CanPlayAll w ms → CanPlayAll (after w ms) ns → CanPlayAll w (ms ++ ns)
-both w [] ns first_can then = then
-both w (m ∷ ms) ns first_can then = (first_can.0, both (play w m) ms ns first_can.1 then)
+-- the first Prepare
+makes-first : MakesPrepare three 0 0 0 1 value []
+makes-first = record { leads = refl; view = refl; local = refl; first = λ u no. no; value = inr (inl refl, inl refl) }
 
 -- view 0
-view_0-can : CanPlayAll first view_0
+view_0-can : CanPlayAll three first view_0
 unfolding with_record with_made stands
-view_0-can = (
-  tt,
-  (
-    (omega arith, ((refl, record { leads = refl; view = refl; local = refl; first = λ u no. no; value = inr (inl refl, inl refl) }), inl refl)),
-    (
-      (omega arith, (inl refl, tt)),
-      (
-        (omega arith, ((refl, refl, refl, omega arith), refl)),
-        (
-          (omega arith, ((refl, record { view = refl; local = refl; prepared = inl refl }), tt)),
-          (
-            (omega arith, (inl refl, (omega arith, omega arith))),
-            (
-              (omega arith, ((refl, refl, omega arith), refl)),
-              (
-                (omega arith, ((refl, record { view = refl; local = 0; accepted = inl refl }), tt)),
-                ((omega arith, (inl refl, omega arith)), tt),
-              ),
-            ),
-          ),
-        ),
-      ),
-    ),
-  ),
-)
+view_0-can = search (inl, inr, refl, arith, makes-first) parts 30
 
 -- the number of an Accept; 0 for other statements
 abbrev number_in : Statement → ℕ
@@ -114,27 +67,16 @@ empty-backed w entered made =
 -- the moves of the change before the second union
 abbrev enter_both : List Move
 enter_both =
-    Records 0 (EnterGlobal (record { 0 = 1 }) []) ∷ Records 0 (Made 3 union) ∷ Records 1 (EnterGlobal (record { 0 = 1 }) []) ∷ []
+    Records 0 0 (EnterGlobal (record { 0 = 1 }) []) ∷ Records 0 0 (Made 3 union) ∷ Records 1 0 (EnterGlobal (record { 0 = 1 }) []) ∷ []
 
 -- the change of view
-change-can : CanPlayAll (after first view_0) change
+change-can : CanPlayAll three (after first view_0) change
 unfolding with_record with_made stands
-change-can = (
-  (omega arith, (omega arith, tt)),
-  (
-    (omega arith, (refl, union-backed (after first (view_0 ++ Records 0 (EnterGlobal (record { 0 = 1 }) []) ∷ [])) (omega arith) refl refl)),
-    (
-      (omega arith, (omega arith, tt)),
-      (
-        (omega arith, (refl, empty-backed (after first (view_0 ++ enter_both)) (omega arith) refl)),
-        (
-          (omega arith, ((omega arith, refl), record { exists = omega arith; server = 0; correct = inl refl; recorded = inl refl })),
-          ((omega arith, ((omega arith, refl), record { exists = omega arith; server = 0; correct = inl refl; recorded = inl refl })), tt),
-        ),
-      ),
-    ),
-  ),
-)
+change-can =
+    let backed = union-backed (after first (view_0 ++ Records 0 0 (EnterGlobal (record { 0 = 1 }) []) ∷ [])) (omega arith) refl refl in
+    let empty = empty-backed (after first (view_0 ++ enter_both)) (omega arith) refl in
+    let maker : HasMaker three (after first (view_0 ++ enter_both)) 0 union = record { exists = omega arith; server = 0; correct = inl refl; recorded = inl refl } in
+    search (inl, inr, refl, arith, backed, empty, maker) parts 30
 
 -- the unions that the new leader holds
 held : (w : World) → Has union (unions_of (w.records 1 0)) → Has empty_union (unions_of (w.records 1 0)) → HeldSites three 1 1 (w.records 1 0)
@@ -168,61 +110,24 @@ forced w one other =
     }
 
 -- view 1
-view_1-can : CanPlayAll (after (after first view_0) change) view_1
+view_1-can : CanPlayAll three (after (after first view_0) change) view_1
 unfolding with_record with_made stands
 view_1-can =
-    let w : World = after (after first view_0) change in (
-      (
-        omega arith,
-        (
-          (
-            refl,
-            record {
-              leads = refl;
-              view = refl;
-              local = refl;
-              first = λ u. ⊎_elim (λ (same : prepare 1 1 0 1 u ≡ empty_union). cc) (λ no. no);
-              value = inr (inl refl, inr (held w (inr (inl refl)) (inl refl), inl (forced w (inr (inl refl)) (inl refl))));
-            },
-          ),
-          inl refl,
-        ),
-      ),
-      (
-        (omega arith, (inl refl, tt)),
-        (
-          (omega arith, ((refl, refl, refl, omega arith), refl)),
-          (
-            (omega arith, ((refl, record { view = refl; local = refl; prepared = inl refl }), tt)),
-            (
-              (omega arith, (inl refl, (omega arith, omega arith))),
-              (
-                (omega arith, ((refl, refl, omega arith), refl)),
-                (
-                  (omega arith, ((refl, record { view = refl; local = 0; accepted = inl refl }), tt)),
-                  (
-                    (omega arith, (inl refl, omega arith)),
-                    (
-                      (omega arith, (omega arith, tt)),
-                      (
-                        (omega arith, ((refl, refl, omega arith), refl)),
-                        (
-                          (omega arith, ((refl, record { view = refl; local = 0; accepted = inl refl }), tt)),
-                          (
-                            (omega arith, (inl refl, omega arith)),
-                            ((omega arith, (refl, (1, omega arith))), tt),
-                          ),
-                        ),
-                      ),
-                    ),
-                  ),
-                ),
-              ),
-            ),
-          ),
-        ),
-      ),
-    )
+    let w : World = after (after first view_0) change in
+    let again : MakesPrepare three 1 1 0 1 value (w.records 1 0) =
+    record {
+      leads = refl;
+      view = refl;
+      local = refl;
+      first = λ u. ⊎_elim (λ (same : prepare 1 1 0 1 u ≡ empty_union). cc) (λ no. no);
+      value = inr (inl refl, inr (held w (inr (inl refl)) (inl refl), inl (forced w (inr (inl refl)) (inl refl))));
+    } in
+    search (inl, inr, refl, arith, again) parts 40
+
+-- the value is chosen then
+executes-can : CanPlayAll three (after (after (after first view_0) change) view_1) executes
+unfolding with_record with_made stands
+executes-can = ((omega arith, inl refl, refl, (1, omega arith)), tt)
 
 -- three sites of one correct server each
 pub three-sites : AreSites three
@@ -231,13 +136,8 @@ three-sites = record { some = omega arith; most = λ s exists. omega arith }
 -- the whole run
 pub example-run : IsRun (MiniStep three) first (plays first moves)
 example-run =
-    plays-run first moves (both first view_0 (change ++ view_1) view_0-can (both (after first view_0) change view_1 change-can view_1-can))
-
--- the last world of moves is among their worlds
-after-among : (w : World) (ms : List Move) → 0 < length ms → Has (after w ms) (plays w ms)
-after-among w [] some = absurd (omega arith)
-after-among w (m ∷ []) some = inl refl
-after-among w (m ∷ n ∷ ms) some = inr (after-among (play w m) (n ∷ ms) (omega arith))
+    plays-run three first moves
+    (parts-can three first (view_0 ∷ change ∷ view_1 ∷ executes ∷ []) (view_0-can, (change-can, (view_1-can, (executes-can, tt)))))
 
 -- the last world of the example
 pub example-among : Has (after first moves) (plays first moves)
@@ -251,7 +151,7 @@ example-executed =
       site = 2;
       server = 0;
       number = record { 0 = 1 };
-      proof = order_proof;
+      proof = order_proof 1;
       exists = omega arith;
       correct = inl refl;
       recorded = inl refl;

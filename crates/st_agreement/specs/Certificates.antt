@@ -1,5 +1,5 @@
 -- Quorums of honest seals, without the seals.
-use Rattle.std.specs.Prelude.{◌≡◌, ℕ, ◌+◌, ◌*◌, ◌/◌, ◌<◌, ◌≤◌, Bool, IsTrue, List, length}
+use Rattle.std.specs.Prelude.{ℕ, ◌+◌, ◌*◌, ◌/◌, ◌<◌, ◌≤◌, Bool, IsTrue, List, length}
 use Rattle.st_words.specs.declared.value.Value.{Value}
 use Rattle.st_counts.specs.Counts.{Has, Distinct}
 use Rattle.st_agreement.specs.Sites.{Sites}

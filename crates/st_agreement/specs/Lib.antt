@@ -1,6 +1,8 @@
 -- The definitions that contracts cite.
 pub mod Certificates
 pub mod Example
+pub mod ExampleMoves
+pub mod ExampleSite
 pub mod MiniSteps
 pub mod Records
 pub mod Reports

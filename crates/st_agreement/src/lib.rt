@@ -2,26 +2,29 @@
 //!
 //! Each event of a server is a list of two kinds of mini-steps: it records one change, or hands out one
 //! statement that it has recorded. Along every run of mini-steps the flat world inside each leader site, and
-//! that of the sites, only grow and stay well. No server's contract cites these laws yet.
+//! that of the sites, only grow and stay well. The laws of worlds (`st_refinement_laws`, `st_log_laws`) stand on these.
 #![tactic(auto)]
 
-ghost use Rattle.std.specs.Prelude.{◌≡◌, ℕ, ◌<◌, ◌≤◌, Bool, IsTrue, List, ◌∷◌};
+ghost use Rattle.std.specs.Prelude.{◌≡◌, ℕ, ◌<◌, ◌≤◌, Bool, IsTrue, List, [], ◌∷◌};
 ghost use Rattle.st_words.specs.declared.statement.Item.{Item};
 ghost use Rattle.st_words.specs.declared.statement.Statement.{Statement};
 ghost use Rattle.st_words.specs.declared.value.Value.{Value};
 ghost use Rattle.st_message.specs.declared.change.Change.{Change};
+ghost use Rattle.st_message.specs.declared.change.Change.TheVariants.{Made};
 ghost use Rattle.st_counts.specs.Counts.{Has};
 ghost use Rattle.st_registers.specs.Advances.{Advances};
 ghost use Rattle.st_registers.specs.Steps.{IsRun};
 ghost use Rattle.st_registers.specs.Tests.{Safe, IsChosen};
 ghost use Rattle.st_agreement.specs.Certificates.{IsQuorum, IsOrdered};
-ghost use Rattle.st_agreement.specs.Example.{three, value, moves, plays, after};
-ghost use Rattle.st_agreement.specs.MiniSteps.{HasExecuted, HasMaker, Invariant, MiniStep, first};
+ghost use Rattle.st_agreement.specs.Example.{three, moves};
+ghost use Rattle.st_agreement.specs.ExampleMoves.{value, plays, after};
+ghost use Rattle.st_agreement.specs.ExampleSite.{again, asks_local, executed_in, faults, global_reports, is_correct, item, local_reports, one_site, proposed, servers, site_moves, site_world, union_of_local, waiting};
+ghost use Rattle.st_agreement.specs.MiniSteps.{HasExecuted, HasMaker, Invariant, MiniStep, first, with_record};
 ghost use Rattle.st_agreement.specs.Reports.{Report, IsUnion, IsLocalBundle, IsGlobalBundle};
-ghost use Rattle.st_agreement.specs.Rules.{MayStand};
+ghost use Rattle.st_agreement.specs.Rules.{ForcedByLocal, ForcedBySites, FreeOfLocal, HeldSites, MayStand};
 ghost use Rattle.st_agreement.specs.Runs.{Reached, HasServers, sites_of, MayRecord, recordings};
 ghost use Rattle.st_agreement.specs.Sites.{Sites, AreSites, leader};
-ghost use Rattle.st_agreement.specs.Statements.{is_proposal};
+ghost use Rattle.st_agreement.specs.Statements.{is_prepare, is_proposal};
 ghost use Rattle.st_agreement.specs.Unions.{IsLocalUnion, IsGlobalUnion};
 ghost use Rattle.st_agreement.specs.Worlds.{World, IsOwn, has_made, stands, inside, outside};
 
@@ -125,21 +128,33 @@ pub fn example_run()
     ensures executed { HasExecuted three (after first moves) 1 value }
 {}
 
-#[cfg(test)]
-mod tests {
-    use super::*;
-
-    #[test]
-    fn laws_are_called() {
-        enough_correct();
-        invariant_kept();
-        prepared_values_are_safe();
-        flat_refinement();
-        one_voice();
-        agreement();
-        unions_of_reports();
-        certificates();
-        pending_changes();
-        example_run();
-    }
-}
+/// They can be met where a server is faulty too: a run in which one site of four servers, of which one is faulty,
+/// orders an update in a local view, and once more after a change of local view and a change of view. Of each
+/// law this run meets what it asks for: of quorums with the faulty server's seal, bundles with its report, and
+/// what the unions force.
+pub fn example_run_with_faults()
+    ensures servers { HasServers 1 faults servers is_correct }
+    ensures sites { AreSites one_site }
+    ensures run { IsRun (MiniStep one_site) first (plays first site_moves) }
+    ensures last { Has site_world (plays first site_moves) }
+    ensures invariant { Invariant one_site site_world }
+    ensures executed { HasExecuted one_site site_world 1 value }
+    ensures by_two { Has (executed_in 0) (site_world.records 0 0) × Has (executed_in 1) (site_world.records 0 1) }
+    ensures voices { IsTrue (stands one_site site_world 0 (is_proposal 0 0 0 1 value)) ×
+        IsTrue (stands one_site site_world 0 (is_proposal 0 0 1 1 value)) }
+    ensures local_bundle { IsLocalBundle one_site site_world 0 1 local_reports }
+    ensures local_union { IsUnion local_reports 0 (item 0 ∷ []) }
+    ensures local_bounded { (r : Report) → Has r local_reports → r.view ≤ 0 }
+    ensures global_bundle { IsGlobalBundle one_site site_world 0 1 global_reports }
+    ensures global_union { IsUnion global_reports 0 (item 1 ∷ []) }
+    ensures prepare_quorum { IsQuorum (faults 0) (servers 0) (is_correct 0)
+        (λ k. IsTrue (has_made site_world 0 (is_prepare 0 0 0 1 value) k)) (0 ∷ 1 ∷ 3 ∷ []) }
+    ensures union_quorum { IsQuorum (faults 0) (servers 0) (is_correct 0)
+        (λ k. Has union_of_local (site_world.made 0 k)) (1 ∷ 2 ∷ 3 ∷ []) }
+    ensures ordered { IsOrdered one_site site_world 1 0 value (0 ∷ []) }
+    ensures forced { ForcedByLocal 0 0 1 1 again (site_world.records 0 1) }
+    ensures free { FreeOfLocal 0 1 1 1 (site_world.records 0 1) }
+    ensures forced_by_sites { (held : HeldSites one_site 1 1 (site_world.records 0 1)) × ForcedBySites 1 value held.unions }
+    ensures waiting { MayRecord one_site proposed 0 (proposed.records 0 2) waiting }
+    ensures goes_on { MiniStep one_site proposed (with_record proposed 0 1 (Made 0 asks_local)) }
+{}

@@ -1,7 +1,7 @@
 -- A bundle of reports whose seals are honest is one by the rules of the agreement proof, on a local view and on a view; so its union may be made.
 use Rattle.std.proofs.Common.{◌≡◌, ℕ, ◌+◌, ◌*◌, ◌%◌, ◌<◌, ◌≤◌, ◌==◌, Bool, List, [], ◌∷◌, ◌++◌, length, map, sym, subst, inl, inr, arith}
 use Rattle.std.specs.Prelude.{max, IsTrue}
-use Rattle.std.specs.List.{list_any}
+use Rattle.std.specs.List.{AllByRecursion as Each, list_any}
 use Rattle.std.proofs.lemmas.Bool.{eq-eqb}
 use Rattle.std.proofs.lemmas.List.{length-map}
 use Rattle.st_words.specs.declared.statement.Item.{Item}
@@ -20,13 +20,14 @@ use Rattle.st_agreement.proofs.ReportLaws.{bundle-local_union, bundle-global_uni
 use Rattle.st_agreement.proofs.StatementLaws.{is_prepare-refl, is_proposal-refl}
 use Rattle.st_protocol.specs.Words.{Quorum, a_prepare, a_proposal, site_of, index_of}
 use Rattle.st_protocol.specs.Collecting.{view_in, base_in, items_in, most, union_items}
-use Rattle.st_protocol.specs.Known.{all_of, knows_quorum, in_quorum, in_items}
+use Rattle.st_protocol.specs.Known.{in_quorum, in_items}
 use Rattle.st_protocol.specs.World.{Deployment, World, servers_of, is_correct}
+use Rattle.st_frame_laws.specs.Exact.{QuorumIsExact}
 use Rattle.st_answer_laws.specs.Fair.{HasFewFaulty}
 use Rattle.st_answer_laws.specs.Plain.{sites_in, plain_of}
 use Rattle.st_answer_laws.specs.Sound.{indices, IsHonestSeal}
 use Rattle.st_answer_laws.proofs.UnionLaws.{report_in, reports_in, IsRanged, items-union}
-use Rattle.st_answer_laws.proofs.SealLaws.{first-of-two, second-of-two, Did, a-quorum, sealed-stands}
+use Rattle.st_answer_laws.proofs.SealLaws.{Did, a-quorum, sealed-stands}
 
 -- each of two lists
 pub all-left : {A : Type 0} (P : A → Type 0) (xs ys : List A) → AllOf P (xs ++ ys) → AllOf P xs
@@ -58,13 +59,13 @@ view-most (x ∷ rs) r (inr among) = right (view_in x.statement) (most view_in r
     right a b low = grind (arith, low)
 
 module _ {Wire : Type 0} (d : Deployment Wire) (world : World Wire) (few : HasFewFaulty d) (s : ℕ) (exists : s < d.sites) where
-  -- What is known of a report in a bundle of a site: its statement is of the bundle's kind and view, it has as many Quorums as
+  -- What holds of a report in a bundle of a site: its statement is of the bundle's kind and view, it has as many Quorums as
   -- items, and its seals are honest.
   pub record IsReportAs (form : Report → Statement) (of : Item → Statement) (r : ReportBody) : Type 0 where
     pub kind : r.statement ≡ form (report_in r.statement)
     pub index : index_of r.statement < servers_of d
     pub ranged : IsRanged r
-    pub known : IsTrue (all_of (knows_quorum d.sites d.f d.clients) r.quorums)
+    pub exact : Each (QuorumIsExact d) r.quorums
     pub distinct : AllOf (λ q. Distinct (indices q)) r.quorums
     pub many : length r.quorums ≡ length (items_in r.statement)
     pub did : IsTrue (is_correct d s (index_of r.statement)) → Did d world few s r.statement (index_of r.statement)
@@ -72,17 +73,17 @@ module _ {Wire : Type 0} (d : Deployment Wire) (world : World Wire) (few : HasFe
 
   -- what is behind items stands
   items-stand : (of : Item → Statement) (test : Item → Statement → Bool) → ((i : Item) → site_of (of i) < d.sites) → ((i : Item) → IsTrue (test i (of i))) → (is : List Item) (qs : List Quorum) →
-      length qs ≡ length is → IsTrue (all_of (knows_quorum d.sites d.f d.clients) qs) → AllOf (λ q. Distinct (indices q)) qs → AllOf (IsHonestSeal d world) (in_items of is qs) →
+      length qs ≡ length is → Each (QuorumIsExact d) qs → AllOf (λ q. Distinct (indices q)) qs → AllOf (IsHonestSeal d world) (in_items of is qs) →
       (i : Item) → Has i is → IsTrue (plain.stands (sites_in d) (plain_of d world) (site_of (of i)) (test i))
-  unfolding in_items all_of
-  items-stand of test within passes [] qs many known distinct honest i has = absurd has
-  items-stand of test within passes (j ∷ is) [] many known distinct honest i has = absurd (omega (arith, many))
-  items-stand of test within passes (j ∷ is) (w ∷ qs) many known distinct honest i (inl same) =
+  unfolding in_items
+  items-stand of test within passes [] qs many exact distinct honest i has = absurd has
+  items-stand of test within passes (j ∷ is) [] many exact distinct honest i has = absurd (omega (arith, many))
+  items-stand of test within passes (j ∷ is) (w ∷ qs) many exact distinct honest i (inl same) =
       subst (λ (k : Item). IsTrue (plain.stands (sites_in d) (plain_of d world) (site_of (of k)) (test k))) (sym same)
       (sealed-stands d world few (site_of (of j)) (of j) (test j) (indices w) (within j) (passes j)
-      (a-quorum d world few (site_of (of j)) (of j) w (first-of-two _ _ known) distinct.0 (all-left (IsHonestSeal d world) (in_quorum (site_of (of j)) (of j) w) _ honest)))
-  items-stand of test within passes (j ∷ is) (w ∷ qs) many known distinct honest i (inr among) =
-      items-stand of test within passes is qs (omega (arith, many)) (second-of-two _ _ known) distinct.1
+      (a-quorum d world few (site_of (of j)) (of j) w exact.0 distinct.0 (all-left (IsHonestSeal d world) (in_quorum (site_of (of j)) (of j) w) _ honest)))
+  items-stand of test within passes (j ∷ is) (w ∷ qs) many exact distinct honest i (inr among) =
+      items-stand of test within passes is qs (omega (arith, many)) exact.1 distinct.1
       (all-right (IsHonestSeal d world) (in_quorum (site_of (of j)) (of j) w) _ honest) i among
 
   -- ---- 2f+1 reports of distinct servers
@@ -118,7 +119,7 @@ module _ {Wire : Type 0} (d : Deployment Wire) (world : World Wire) (few : HasFe
         let one = map-has (λ (r : ReportBody). report_in r.statement) x rs has in
         let r : ReportBody = one.0 in
         let fact : IsReportAs form of r = each r one.1.0 in
-        items-stand of test within passes (items_in r.statement) r.quorums fact.many fact.known fact.distinct fact.behind i (subst (λ (y : Report). Has i y.items) (sym one.1.1) among)
+        items-stand of test within passes (items_in r.statement) r.quorums fact.many fact.exact fact.distinct fact.behind i (subst (λ (y : Report). Has i y.items) (sym one.1.1) among)
 
   -- ---- on a local view
 

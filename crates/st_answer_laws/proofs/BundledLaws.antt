@@ -1,7 +1,7 @@
 -- A sound bundle: what the format asks of it gives that its reports are of one kind, site and view, and of distinct servers. So its union may be made.
 use Rattle.std.proofs.Common.{◌≡◌, ℕ, ◌+◌, ◌<◌, ◌≤◌, true, false, List, [], ◌∷◌, map, refl, sym, ◌∙◌, subst, inl, inr, arith}
 use Rattle.std.specs.Prelude.{Option, IsTrue}
-use Rattle.std.proofs.lemmas.Bool.{eqb-true, ltb-true}
+use Rattle.std.specs.List.{AllByRecursion as Each}
 use Rattle.st_fields.specs.Spelling.{KeepsEach}
 use Rattle.st_words.specs.declared.limits.ReportBounds.{ReportBounds}
 use Rattle.st_words.specs.declared.statement.Item.{Item}
@@ -20,13 +20,14 @@ use Rattle.st_agreement.specs.Reports.{local_report, global_report}
 use Rattle.st_agreement.specs.Rules.{Makes}
 use Rattle.st_protocol.specs.Words.{Bytes, Quorum, server_at, site_of, index_of}
 use Rattle.st_protocol.specs.Collecting.{view_in, items_in, union}
-use Rattle.st_protocol.specs.Known.{all_of, knows_statement, knows_report, knows, in_items, in_report, in_reports, seals_of}
+use Rattle.st_protocol.specs.Known.{in_items, in_report, in_reports, seals_of}
 use Rattle.st_protocol.specs.World.{Deployment, World, is_correct}
+use Rattle.st_frame_laws.specs.Exact.{ReportIsExact}
 use Rattle.st_answer_laws.specs.Fair.{HasFewFaulty}
 use Rattle.st_answer_laws.specs.Plain.{sites_in, plain_of}
 use Rattle.st_answer_laws.specs.Sound.{IsHonestSeal, IsSound}
 use Rattle.st_answer_laws.proofs.RangeLaws.{Limited, items-limited, keys-distinct, quorums-distinct}
-use Rattle.st_answer_laws.proofs.SealLaws.{made-by, first-of-two, second-of-two}
+use Rattle.st_answer_laws.proofs.SealLaws.{made-by}
 use Rattle.st_answer_laws.proofs.BundleLaws.{all-left, all-right, prepare_in, proposal_in, IsReportAs, bundle-union, bundle-union_view}
 
 -- a report of these parts
@@ -106,19 +107,17 @@ module _ {Wire : Type 0} (d : Deployment Wire) (world : World Wire) (few : HasFe
   Bounded t = (i : Item) → Has i (items_in t) → i.view.0 ≤ view_in t
 
   local-one : (l : ℕ) (t : Statement) (seal : Bytes) (qs : List Quorum) (base : Option Proof) → AtLocal s l t → KeepsBacked (body t seal qs base) →
-      IsTrue (knows_report d.sites d.f d.clients (body t seal qs base)) → AllOf (IsHonestSeal d world) (in_report d.sites (body t seal qs base)) →
+      ReportIsExact d (body t seal qs base) → AllOf (IsHonestSeal d world) (in_report d.sites (body t seal qs base)) →
       IsReportAs d world few s exists (local_report s l) (prepare_in s) (body t seal qs base) × Bounded t
-  unfolding knows_report knows_statement
-  local-one l (LocalReport site local index view low items) seal qs base at keeps known honest =
+  local-one l (LocalReport site local index view low items) seal qs base at keeps exact honest =
       let t : Statement = LocalReport site local index view low items in
-      let limited : Limited (limits_above low view.0 _) items = items-limited _ items keeps.0.2.1 in
-      let parts = first-of-two _ _ (first-of-two _ _ known) in (
+      let limited : Limited (limits_above low view.0 _) items = items-limited _ items keeps.0.2.1 in (
         record {
           kind = subst (λ z. t ≡ LocalReport (record { 0 = z }) (record { 0 = l }) index view low items) at.0
               (subst (λ z. t ≡ LocalReport site (record { 0 = z }) index view low items) at.1 refl);
-          index = ltb-true index _ (second-of-two _ _ (first-of-two _ _ parts));
+          index = exact.0.0.0.1;
           ranged = record { one = limited.one; window = limited.window };
-          known = second-of-two _ _ (first-of-two _ _ known);
+          exact = exact.0.1;
           distinct = quorums-distinct qs keeps.3;
           many = keeps.2;
           did = λ correct. subst (λ z. Has t ((plain_of d world).made z index)) at.0
@@ -127,53 +126,51 @@ module _ {Wire : Type 0} (d : Deployment Wire) (world : World Wire) (few : HasFe
         },
         limited.views,
       )
-  local-one l _ seal qs base at keeps known honest = absurd at
+  local-one l _ seal qs base at keeps exact honest = absurd at
 
   global-one : (g : ℕ) (t : Statement) (seal : Bytes) (qs : List Quorum) (base : Option Proof) → AtGlobal s g t → KeepsBacked (body t seal qs base) →
-      IsTrue (knows_report d.sites d.f d.clients (body t seal qs base)) → AllOf (IsHonestSeal d world) (in_report d.sites (body t seal qs base)) →
+      ReportIsExact d (body t seal qs base) → AllOf (IsHonestSeal d world) (in_report d.sites (body t seal qs base)) →
       IsReportAs d world few s exists (global_report s g) (proposal_in d.sites) (body t seal qs base)
-  unfolding knows_report knows_statement
-  global-one g (GlobalReport site view index low items) seal qs base at keeps known honest =
+  global-one g (GlobalReport site view index low items) seal qs base at keeps exact honest =
       let t : Statement = GlobalReport site view index low items in
       let limited : Limited (limits_above low _ _) items = items-limited _ items keeps.0.2.1 in
-      let parts = first-of-two _ _ (first-of-two _ _ known) in
       record {
         kind = subst (λ z. t ≡ GlobalReport (record { 0 = z }) (record { 0 = g }) index low items) at.0
             (subst (λ z. t ≡ GlobalReport site (record { 0 = z }) index low items) at.1 refl);
-        index = ltb-true index _ (second-of-two _ _ (first-of-two _ _ parts));
+        index = exact.0.0.0.1;
         ranged = record { one = limited.one; window = limited.window };
-        known = second-of-two _ _ (first-of-two _ _ known);
+        exact = exact.0.1;
         distinct = quorums-distinct qs keeps.3;
         many = keeps.2;
         did = λ correct. subst (λ z. Has t ((plain_of d world).made z index)) at.0
             (made-by (server_at site.0 index) world.made [] t (honest.0 (subst (λ z. IsTrue (is_correct d z index)) (sym at.0) correct)));
         behind = all-left (IsHonestSeal d world) (in_items (proposal_in d.sites) items qs) _ honest.1;
       }
-  global-one g _ seal qs base at keeps known honest = absurd at
+  global-one g _ seal qs base at keeps exact honest = absurd at
 
   -- ---- those behind it
 
-  local-all : (l : ℕ) (b : Bundled) (rs : List ReportBody) → 1 ≤ l → b.bounds.global ≡ false → Narrow s l b.bounds → KeepsEach KeepsReport after_body b rs → IsTrue (all_of (knows_report d.sites d.f d.clients) rs) →
+  local-all : (l : ℕ) (b : Bundled) (rs : List ReportBody) → 1 ≤ l → b.bounds.global ≡ false → Narrow s l b.bounds → KeepsEach KeepsReport after_body b rs → Each (ReportIsExact d) rs →
       AllOf (IsHonestSeal d world) (in_reports d.sites rs) → (r : ReportBody) → Has r rs → IsReportAs d world few s exists (local_report s l) (prepare_in s) r × Bounded r.statement
-  unfolding all_of in_reports
-  local-all l b [] some only n h known honest r has = absurd has
-  local-all l b (x ∷ rs) some only n h known honest r (inl same) =
+  unfolding in_reports
+  local-all l b [] some only n h exact honest r has = absurd has
+  local-all l b (x ∷ rs) some only n h exact honest r (inl same) =
       subst (λ (y : ReportBody). IsReportAs d world few s exists (local_report s l) (prepare_in s) y × Bounded y.statement) (sym same)
-      (local-one l x.statement x.seal x.quorums x.base (at-local s l b.bounds x.statement only n h.0.0) h.0.1 (first-of-two _ _ known) (all-left (IsHonestSeal d world) (in_report d.sites x) _ honest))
-  local-all l b (x ∷ rs) some only n h known honest r (inr among) =
+      (local-one l x.statement x.seal x.quorums x.base (at-local s l b.bounds x.statement only n h.0.0) h.0.1 exact.0 (all-left (IsHonestSeal d world) (in_report d.sites x) _ honest))
+  local-all l b (x ∷ rs) some only n h exact honest r (inr among) =
       let more = narrow-local s l b.bounds x.statement some (at-local s l b.bounds x.statement only n h.0.0) in
-      local-all l (after_body b x) rs some more.0 more.1 h.1 (second-of-two _ _ known) (all-right (IsHonestSeal d world) (in_report d.sites x) _ honest) r among
+      local-all l (after_body b x) rs some more.0 more.1 h.1 exact.1 (all-right (IsHonestSeal d world) (in_report d.sites x) _ honest) r among
 
-  global-all : (g : ℕ) (b : Bundled) (rs : List ReportBody) → 1 ≤ g → b.bounds.local ≡ false → Narrow s g b.bounds → KeepsEach KeepsReport after_body b rs → IsTrue (all_of (knows_report d.sites d.f d.clients) rs) →
+  global-all : (g : ℕ) (b : Bundled) (rs : List ReportBody) → 1 ≤ g → b.bounds.local ≡ false → Narrow s g b.bounds → KeepsEach KeepsReport after_body b rs → Each (ReportIsExact d) rs →
       AllOf (IsHonestSeal d world) (in_reports d.sites rs) → (r : ReportBody) → Has r rs → IsReportAs d world few s exists (global_report s g) (proposal_in d.sites) r
-  unfolding all_of in_reports
-  global-all g b [] some only n h known honest r has = absurd has
-  global-all g b (x ∷ rs) some only n h known honest r (inl same) =
+  unfolding in_reports
+  global-all g b [] some only n h exact honest r has = absurd has
+  global-all g b (x ∷ rs) some only n h exact honest r (inl same) =
       subst (λ (y : ReportBody). IsReportAs d world few s exists (global_report s g) (proposal_in d.sites) y) (sym same)
-      (global-one g x.statement x.seal x.quorums x.base (at-global s g b.bounds x.statement only n h.0.0) h.0.1 (first-of-two _ _ known) (all-left (IsHonestSeal d world) (in_report d.sites x) _ honest))
-  global-all g b (x ∷ rs) some only n h known honest r (inr among) =
+      (global-one g x.statement x.seal x.quorums x.base (at-global s g b.bounds x.statement only n h.0.0) h.0.1 exact.0 (all-left (IsHonestSeal d world) (in_report d.sites x) _ honest))
+  global-all g b (x ∷ rs) some only n h exact honest r (inr among) =
       let more = narrow-global s g b.bounds x.statement some (at-global s g b.bounds x.statement only n h.0.0) in
-      global-all g (after_body b x) rs some more.0 more.1 h.1 (second-of-two _ _ known) (all-right (IsHonestSeal d world) (in_report d.sites x) _ honest) r among
+      global-all g (after_body b x) rs some more.0 more.1 h.1 exact.1 (all-right (IsHonestSeal d world) (in_report d.sites x) _ honest) r among
 
   -- ---- the bundle
 
@@ -186,21 +183,20 @@ module _ {Wire : Type 0} (d : Deployment Wire) (world : World Wire) (few : HasFe
   -- The union of a sound bundle of the own site.
   by-first : (t : Statement) (seal : Bytes) (qs : List Quorum) (base : Option Proof) (rs : List ReportBody) → Invariant (sites_in d) (plain_of d world) → site_of t ≡ s →
       IsSound d world (messages.Bundle (body t seal qs base ∷ rs)) → MayUnite (union (body t seal qs base ∷ rs))
-  unfolding union knows all_of seals_of in_reports
+  unfolding union seals_of in_reports
   by-first (LocalReport site local index view low items) seal qs base rs inv of_site sound =
       let t : Statement = LocalReport site local index view low items in
       let r : ReportBody = body t seal qs base in
       let kept = sound.ranged.0.1 in
       let some : 1 ≤ local.0 = kept.0.1.0.0 in
-      let known = second-of-two _ _ sound.known in
-      let first = local-one local.0 t seal qs base (of_site, refl) kept.0.1 (first-of-two _ _ known) (all-left (IsHonestSeal d world) (in_report d.sites r) _ sound.honest) in
+      let first = local-one local.0 t seal qs base (of_site, refl) kept.0.1 sound.exact.1.0 (all-left (IsHonestSeal d world) (in_report d.sites r) _ sound.honest) in
       let more = narrow-local s local.0 any_body.bounds t some (of_site, refl) in
       let each : (x : ReportBody) → Has x (r ∷ rs) → IsReportAs d world few s exists (local_report s local.0) (prepare_in s) x × Bounded x.statement =
       all-of r rs (λ x. IsReportAs d world few s exists (local_report s local.0) (prepare_in s) x × Bounded x.statement) first
-      (local-all local.0 (after_body any_body r) rs some more.0 more.1 kept.1 (second-of-two _ _ known) (all-right (IsHonestSeal d world) (in_report d.sites r) _ sound.honest)) in
+      (local-all local.0 (after_body any_body r) rs some more.0 more.1 kept.1 sound.exact.1.1 (all-right (IsHonestSeal d world) (in_report d.sites r) _ sound.honest)) in
       record {
         makes = λ cs. of_site;
-        backed = bundle-union d world few s exists local.0 (r ∷ rs) inv (eqb-true _ _ (first-of-two _ _ sound.known)) (servers-distinct any_body (r ∷ rs) kept) (λ x has. (each x has).0) (λ x has. (each x has).1);
+        backed = bundle-union d world few s exists local.0 (r ∷ rs) inv sound.exact.0 (servers-distinct any_body (r ∷ rs) kept) (λ x has. (each x has).0) (λ x has. (each x has).1);
         current = λ cs. tt;
       }
     where
@@ -212,15 +208,14 @@ module _ {Wire : Type 0} (d : Deployment Wire) (world : World Wire) (few : HasFe
       let r : ReportBody = body t seal qs base in
       let kept = sound.ranged.0.1 in
       let some : 1 ≤ view.0 = kept.0.1.0.0 in
-      let known = second-of-two _ _ sound.known in
-      let first = global-one view.0 t seal qs base (of_site, refl) kept.0.1 (first-of-two _ _ known) (all-left (IsHonestSeal d world) (in_report d.sites r) _ sound.honest) in
+      let first = global-one view.0 t seal qs base (of_site, refl) kept.0.1 sound.exact.1.0 (all-left (IsHonestSeal d world) (in_report d.sites r) _ sound.honest) in
       let more = narrow-global s view.0 any_body.bounds t some (of_site, refl) in
       let each : (x : ReportBody) → Has x (r ∷ rs) → IsReportAs d world few s exists (global_report s view.0) (proposal_in d.sites) x =
       all-of r rs (λ x. IsReportAs d world few s exists (global_report s view.0) (proposal_in d.sites) x) first
-      (global-all view.0 (after_body any_body r) rs some more.0 more.1 kept.1 (second-of-two _ _ known) (all-right (IsHonestSeal d world) (in_report d.sites r) _ sound.honest)) in
+      (global-all view.0 (after_body any_body r) rs some more.0 more.1 kept.1 sound.exact.1.1 (all-right (IsHonestSeal d world) (in_report d.sites r) _ sound.honest)) in
       record {
         makes = λ cs. of_site;
-        backed = bundle-union_view d world few s exists view.0 (r ∷ rs) inv (eqb-true _ _ (first-of-two _ _ sound.known)) (servers-distinct any_body (r ∷ rs) kept) each;
+        backed = bundle-union_view d world few s exists view.0 (r ∷ rs) inv sound.exact.0 (servers-distinct any_body (r ∷ rs) kept) each;
         current = λ cs. tt;
       }
     where

@@ -1,7 +1,8 @@
 -- What the answers keep of what was heard is so, where what was heard is sound.
-use Rattle.std.proofs.Common.{◌≡◌, ℕ, ◌+◌, ◌/◌, ◌<◌, ◌≤◌, Bool, true, false, cond, nat_eq, nat_lt, nat_le, List, [], ◌∷◌, ◌++◌, length, map, refl, sym, ◌∙◌, ap, subst, inl, inr, arith}
+use Rattle.std.proofs.Common.{◌≡◌, ℕ, ◌+◌, ◌<◌, ◌≤◌, Bool, true, false, cond, nat_eq, nat_lt, nat_le, List, [], ◌∷◌, ◌++◌, map, refl, sym, ◌∙◌, ap, subst, inl, inr, arith}
 use Rattle.std.specs.Prelude.{◌&&◌, ◌||◌, Option, Some, None, IsTrue}
-use Rattle.std.proofs.lemmas.Bool.{eqb-true, ltb-true, leb-true}
+use Rattle.std.proofs.lemmas.Bool.{eqb-true, lt-ltb, leb-true}
+use Rattle.std.specs.List.{AllByRecursion as Each}
 use Rattle.std.proofs.lemmas.List.{length-map}
 use Rattle.st_words.specs.declared.ids.ClientId.{ClientId}
 use Rattle.st_words.specs.declared.ids.Who.{Who}
@@ -29,9 +30,10 @@ use Rattle.st_protocol.specs.Words.{server_at, an_accept, site_of, same_who, sam
 use Rattle.st_protocol.specs.Keeping.{greatest, open_if, from, gathered, greatest_of, most_of, joined}
 use Rattle.st_protocol.specs.State.{Place, Seat, Share, Pended, pended_time, Word, word_view, word_height, Answers, open_number, open_place, at_place}
 use Rattle.st_protocol.specs.Questions.{taken, share_in, update_in, word_in, height_in, taken_height, proof_in, here_of, questions}
-use Rattle.st_protocol.specs.Known.{Sealed, all_of, knows, knows_statement, knows_site_word, knows_sites, knows_proof, seals_of, in_quorum, in_sites}
+use Rattle.st_protocol.specs.Known.{Sealed, seals_of, in_quorum, in_sites}
 use Rattle.st_protocol.specs.World.{Deployment, World, is_correct, has_made}
 use Rattle.st_protocol.proofs.SameLaws.{same_who-Decides, same_statement-Decides}
+use Rattle.st_frame_laws.specs.Exact.{WordIsExact}
 use Rattle.st_answer_laws.specs.Fair.{HasFewFaulty}
 use Rattle.st_answer_laws.specs.Plain.{updates_of, with_update_of, sites_in, plain_of}
 use Rattle.st_answer_laws.specs.Sound.{indices, IsHonestSeal, IsSound, IsSoundHeard}
@@ -133,26 +135,25 @@ module _ {Wire : Type 0} (d : Deployment Wire) (world : World Wire) (few : HasFe
 
   -- an update that is heard
   update-own : (c : ℕ) (m : Message) (k : Pended) → IsSound d world m → update_in c m ≡ Some k → Has k.update (plain_of d world).updates
-  unfolding seals_of knows
+  unfolding seals_of
   update-own c (messages.Update u seal) k sound e =
       let parts = picked-is (nat_eq u.client.0 c) (record { update = u; seal = seal }) k e in
-      subst (λ (y : Pended). Has y.update (plain_of d world).updates) parts.1 (updates-of u.client world.made [] u (sound.honest.0 sound.known))
+      subst (λ (y : Pended). Has y.update (plain_of d world).updates) parts.1 (updates-of u.client world.made [] u (sound.honest.0 (lt-ltb u.client.0 d.clients sound.exact)))
   update-own c _ k sound e = absurd (let none : None ≡ Some k = e in cc)
 
   -- an Accept certificate that is heard stands
   word-stands : (n s : ℕ) (m : Message) (x : Word) → IsSound d world m → word_in n s m ≡ Some x → (x.view + 1 ≡ height_in n m) × IsTrue (plain.stands (sites_in d) (plain_of d world) s (is_accept s x.view n x.value))
-  unfolding seals_of knows knows_statement
+  unfolding seals_of
   word-stands n s (messages.Certificate (Accept s2 g n2 v) q) x sound e =
       let parts = picked-is (nat_eq n2.0 n && nat_eq s2.0 s) (record { view = g.0; value = v; quorum = q }) x e in
       let number : n2.0 ≡ n = eqb-true n2.0 n (first-of-two (nat_eq n2.0 n) (nat_eq s2.0 s) parts.0) in
       let site : s2.0 ≡ s = eqb-true s2.0 s (second-of-two (nat_eq n2.0 n) (nat_eq s2.0 s) parts.0) in
       let view : x.view ≡ g.0 = ap (λ (y : Word). y.view) (sym parts.1) in
       let t : Statement = Accept s2 g n2 v in
-      let knows_all : IsTrue (knows_statement d.sites d.f d.clients t) = first-of-two _ _ sound.known in
-      let exists : s2.0 < d.sites = ltb-true s2.0 d.sites (first-of-two _ _ knows_all) in
+      let exists : s2.0 < d.sites = sound.exact.0.0 in
       let stand : IsTrue (plain.stands (sites_in d) (plain_of d world) s2.0 (is_accept s2.0 g.0 n2.0 v)) =
       sealed-stands d world few s2.0 t (is_accept s2.0 g.0 n2.0 v) (indices q) exists (is_accept-refl s2.0 g.0 n2.0 v)
-      (a-quorum d world few s2.0 t q (second-of-two _ _ sound.known) (quorum-distinct q sound.ranged.0.1) sound.honest) in (
+      (a-quorum d world few s2.0 t q sound.exact.1 (quorum-distinct q sound.ranged.0.1) sound.honest) in (
         ap (λ z. z + 1) view ∙ height (nat_eq n2.0 n) (first-of-two (nat_eq n2.0 n) (nat_eq s2.0 s) parts.0),
         subst (λ (y : Word). IsTrue (plain.stands (sites_in d) (plain_of d world) s (is_accept s y.view n y.value))) parts.1
             (subst (λ z. IsTrue (plain.stands (sites_in d) (plain_of d world) z (is_accept z g.0 n v))) site
@@ -166,24 +167,23 @@ module _ {Wire : Type 0} (d : Deployment Wire) (world : World Wire) (few : HasFe
 
   -- the words of an order proof stand
   words-stand : (n g : ℕ) (v : Value) (ws : List SiteWord) → AllOf (IsHonestSeal d world) (in_sites (λ site. an_accept site g n v) ws) → AllOf (λ (x : SiteWord). Distinct (indices x.quorum)) ws →
-      IsTrue (all_of (knows_site_word d.sites d.f d.clients) ws) → (x : SiteWord) → Has x ws → (x.site.0 < d.sites) × IsTrue (plain.stands (sites_in d) (plain_of d world) x.site.0 (is_accept x.site.0 g n v))
-  unfolding in_sites all_of
-  words-stand n g v [] honest distinct known x has = absurd has
-  words-stand n g v (y ∷ ys) honest distinct known x (inl same) =
+      Each (WordIsExact d) ws → (x : SiteWord) → Has x ws → (x.site.0 < d.sites) × IsTrue (plain.stands (sites_in d) (plain_of d world) x.site.0 (is_accept x.site.0 g n v))
+  unfolding in_sites
+  words-stand n g v [] honest distinct exact x has = absurd has
+  words-stand n g v (y ∷ ys) honest distinct exact x (inl same) =
       let t : Statement = an_accept y.site.0 g n v in
-      let knows_word : IsTrue (knows_site_word d.sites d.f d.clients y) = first-of-two _ _ known in
-      let exists : y.site.0 < d.sites = ltb-true y.site.0 d.sites (first-of-two _ _ knows_word) in
+      let exists : y.site.0 < d.sites = exact.0.0 in
       subst (λ (z : SiteWord). (z.site.0 < d.sites) × IsTrue (plain.stands (sites_in d) (plain_of d world) z.site.0 (is_accept z.site.0 g n v))) (sym same) (
         exists,
         sealed-stands d world few y.site.0 t (is_accept y.site.0 g n v) (indices y.quorum) exists (is_accept-refl y.site.0 g n v)
-            (a-quorum d world few y.site.0 t y.quorum (second-of-two _ _ knows_word) distinct.0 (all-left (in_quorum y.site.0 t y.quorum) _ honest)),
+            (a-quorum d world few y.site.0 t y.quorum exact.0.1 distinct.0 (all-left (in_quorum y.site.0 t y.quorum) _ honest)),
       )
     where
       all-left : (xs zs : List Sealed) → AllOf (IsHonestSeal d world) (xs ++ zs) → AllOf (IsHonestSeal d world) xs
       all-left [] zs h = tt
       all-left (a ∷ xs) zs h = (h.0, all-left xs zs h.1)
-  words-stand n g v (y ∷ ys) honest distinct known x (inr among) =
-      words-stand n g v ys (all-right (in_quorum y.site.0 (an_accept y.site.0 g n v) y.quorum) _ honest) distinct.1 (second-of-two _ _ known) x among
+  words-stand n g v (y ∷ ys) honest distinct exact x (inr among) =
+      words-stand n g v ys (all-right (in_quorum y.site.0 (an_accept y.site.0 g n v) y.quorum) _ honest) distinct.1 exact.1 x among
     where
       all-right : (xs zs : List Sealed) → AllOf (IsHonestSeal d world) (xs ++ zs) → AllOf (IsHonestSeal d world) zs
       all-right [] zs h = h
@@ -191,19 +191,18 @@ module _ {Wire : Type 0} (d : Deployment Wire) (world : World Wire) (few : HasFe
 
   -- an order proof that is heard
   proof-chosen : (n : ℕ) (m : Message) (p : Proof) → IsSound d world m → proof_in n m ≡ Some p → IsChosen (plain.outside (sites_in d) (plain_of d world) n) p.value
-  unfolding seals_of knows knows_proof knows_sites
+  unfolding seals_of
   proof-chosen n (messages.OrderProof n2 p2) p sound e =
       let parts = picked-is (nat_eq n2.0 n) p2 p e in
       let number : n2.0 ≡ n = eqb-true n2.0 n parts.0 in
-      let sites : IsTrue (knows_sites d.sites d.f d.clients p2.sites) = second-of-two _ _ sound.known in
       let each : (x : SiteWord) → Has x p2.sites → (x.site.0 < d.sites) × IsTrue (plain.stands (sites_in d) (plain_of d world) x.site.0 (is_accept x.site.0 p2.view.0 n2.0 p2.value)) =
-      words-stand n2.0 p2.view.0 p2.value p2.sites sound.honest (words-distinct p2.sites sound.ranged.0.1.1).1 (second-of-two _ _ sites) in
+      words-stand n2.0 p2.view.0 p2.value p2.sites sound.honest (words-distinct p2.sites sound.ranged.0.1.1).1 sound.exact.1.1 in
       let named : List ℕ = map (λ (x : SiteWord). x.site.0) p2.sites in
       let ordered : IsOrdered (sites_in d) (plain_of d world) n2.0 p2.view.0 p2.value named =
       record {
         distinct = (words-distinct p2.sites sound.ranged.0.1.1).0;
         within = λ s has. let one = map-has (λ (x : SiteWord). x.site.0) s p2.sites has in subst (λ z. z < d.sites) one.1.1 (each one.0 one.1.0).0;
-        many = omega (arith, eqb-true (length p2.sites) (d.sites / 2 + 1) (first-of-two _ _ sites), length-map p2.sites (λ (x : SiteWord). x.site.0));
+        many = omega (arith, sound.exact.1.0, length-map p2.sites (λ (x : SiteWord). x.site.0));
         accepted = λ s has.
             let one = map-has (λ (x : SiteWord). x.site.0) s p2.sites has in
             subst (λ z. IsTrue (plain.stands (sites_in d) (plain_of d world) z (is_accept z p2.view.0 n2.0 p2.value))) one.1.1 (each one.0 one.1.0).1;

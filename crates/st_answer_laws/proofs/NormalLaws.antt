@@ -1,7 +1,7 @@
 -- The normal case: assignments, shares of Prepares, Proposals, and the fill are steps that may be taken.
 use Rattle.std.proofs.Common.{◌≡◌, ℕ, ◌+◌, ◌*◌, ◌%◌, ◌<◌, ◌≤◌, Bool, true, false, cond, nat_eq, nat_lt, nat_le, List, [], ◌∷◌, ◌++◌, filter, refl, sym, ◌∙◌, ap, subst, inl, arith}
 use Rattle.std.specs.Prelude.{◌&&◌, ◌||◌, not, Option, Some, None, is_none, IsTrue}
-use Rattle.std.proofs.lemmas.Bool.{eqb-true, eq-eqb, ltb-true, lt-ltb, leb-true, le-leb}
+use Rattle.std.proofs.lemmas.Bool.{eqb-true, eq-eqb, lt-ltb, leb-true, le-leb}
 use Rattle.st_words.specs.declared.deployment.TheConstants.{WINDOW}
 use Rattle.st_words.specs.declared.value.Value.{Value}
 use Rattle.st_words.specs.declared.value.Value.TheVariants as values
@@ -32,7 +32,7 @@ use Rattle.st_protocol.specs.Ordering.{proposal_reasons, proposal_step, on_propo
 use Rattle.st_words.specs.declared.ids.Who.TheVariants as parties
 use Rattle.st_words.specs.declared.value.Update.{Update}
 use Rattle.st_words.specs.declared.statement.Statement.TheVariants.{ClientUpdate}
-use Rattle.st_protocol.specs.Known.{Sealed, knows, knows_statement, seals_of, in_quorum, in_client_seal}
+use Rattle.st_protocol.specs.Known.{Sealed, seals_of, in_quorum, in_client_seal}
 use Rattle.st_protocol.specs.World.{Deployment, World, servers_of, is_correct}
 use Rattle.st_protocol.proofs.SameLaws.{same_value-Decides, same_statement-Decides}
 use Rattle.st_protocol.proofs.PartLaws.{NoneTrue}
@@ -243,12 +243,12 @@ module _ {Wire : Type 0} (d : Deployment Wire) (world : World Wire) (s : ℕ) (q
   -- an update in an assignment with its client's seal is its client's own
   assigned-update : (view local n : ℕ) (u : Update) (seal : Bytes) (signed : Signed) → IsSound d world (messages.Assign (record { 0 = view }) (record { 0 = local }) (record { 0 = n }) (values.Update u) seal signed) →
       is_empty seal ≡ false → Has u (plain_of d world).updates
-  unfolding seals_of knows
+  unfolding seals_of
   assigned-update view local n u seal signed sound some =
       let x : Sealed = record { who = parties.Client u.client; statement = ClientUpdate u; seal = seal } in
       let rest : List Sealed = in_quorum (view % d.sites) (a_prepare (view % d.sites) view local n (values.Update u)) (signed ∷ []) in
       let honest : AllOf (IsHonestSeal d world) (x ∷ rest) = subst (λ b. AllOf (IsHonestSeal d world) (cond b [] (x ∷ []) ++ rest)) some sound.honest in
-      updates-of u.client world.made [] u (honest.0 (first-of-two _ _ sound.known))
+      updates-of u.client world.made [] u (honest.0 (lt-ltb u.client.0 d.clients sound.exact.0))
 
   -- and is its client's own
   assigned-own : (view local n : ℕ) (v : Value) (seal : Bytes) (signed : Signed) → IsSound d world (messages.Assign (record { 0 = view }) (record { 0 = local }) (record { 0 = n }) v seal signed) →
@@ -336,19 +336,17 @@ module _ {Wire : Type 0} (d : Deployment Wire) (world : World Wire) (s : ℕ) (q
 
   pub proposal-may : (site view local n : ℕ) (v : Value) (w : Quorum) (step : Step) → IsSound d world (messages.Certificate (a_proposal site view local n v) w) →
       on_proposal q.here q.slots site view local n v w ≡ Steps step → MayStep (sites_in d) (plain_of d world) s rs step
-  unfolding seals_of knows knows_statement
+  unfolding seals_of
   proposal-may site view local n v w step sound e =
       let passed = decides-steps (proposal_reasons q.here q.slots view n) (proposal_step q.here site view local n v w) step e in
       let of_view : view ≡ q.here.view = eqb-true view q.here.view (not-false _ passed.0.0) in
       let in_view : view ≡ view_of rs = of_view ∙ on.support.tells.view in
-      let known : IsTrue (knows_statement d.sites d.f d.clients (a_proposal site view local n v)) = first-of-two _ _ sound.known in
-      let led = first-of-two (nat_lt site d.sites && nat_eq (view % d.sites) site) _ known in
-      let exists : site < d.sites = ltb-true site d.sites (first-of-two (nat_lt site d.sites) _ led) in
-      let leads : view % d.sites ≡ site = eqb-true (view % d.sites) site (second-of-two (nat_lt site d.sites) _ led) in
+      let exists : site < d.sites = sound.exact.0.0.0 in
+      let leads : view % d.sites ≡ site = sound.exact.0.0.1 in
       let t : Statement = a_proposal site view local n v in
       let stand : IsTrue (plain.stands (sites_in d) (plain_of d world) site (is_proposal site view local n v)) =
       sealed-stands d world on.few site t (is_proposal site view local n v) (indices w) exists (is_proposal-refl site view local n v)
-      (a-quorum d world on.few site t w (second-of-two _ _ sound.known) (quorum-distinct w sound.ranged.0.1) sound.honest) in
+      (a-quorum d world on.few site t w sound.exact.1 (quorum-distinct w sound.ranged.0.1) sound.honest) in
       subst (λ (x : Step). MayStep (sites_in d) (plain_of d world) s rs x) passed.1
       (record {
         simple = (tt, (tt, tt));

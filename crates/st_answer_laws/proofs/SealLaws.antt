@@ -1,8 +1,9 @@
 -- What honest seals show: what a quorum sealed stands, and has a correct maker.
-use Rattle.std.proofs.Common.{◌≡◌, ℕ, ◌+◌, ◌*◌, ◌<◌, ◌≤◌, Bool, true, false, cond, zero, suc, nat_lt, List, [], ◌∷◌, length, filter, refl, sym, subst, inl, inr, arith}
+use Rattle.std.proofs.Common.{◌≡◌, ℕ, ◌+◌, ◌*◌, ◌<◌, ◌≤◌, Bool, true, false, cond, zero, suc, nat_lt, List, [], ◌∷◌, filter, refl, sym, subst, inl, inr, arith}
 use Rattle.std.specs.Prelude.{◌&&◌, ◌||◌, not, Option, IsTrue}
-use Rattle.std.proofs.lemmas.Bool.{eqb-true, ltb-true, lt-ltb}
+use Rattle.std.proofs.lemmas.Bool.{lt-ltb}
 use Rattle.std.proofs.lemmas.List.{length-map}
+use Rattle.std.specs.List.{AllByRecursion as Each}
 use Rattle.st_words.specs.declared.ids.Who.{Who}
 use Rattle.st_words.specs.declared.statement.Statement.{Statement}
 use Rattle.st_seal.specs.declared.quorum.Signed.{Signed}
@@ -18,9 +19,10 @@ use Rattle.st_agreement.proofs.CertificateLaws.{quorum-stand, quorum-maker}
 use Rattle.st_protocol.specs.Words.{Quorum, server_at, same_who, same_statement}
 use Rattle.st_protocol.specs.State.{Share}
 use Rattle.st_protocol.specs.Step.{count_below, says}
-use Rattle.st_protocol.specs.Known.{all_of, knows_signed, knows_quorum, in_quorum}
+use Rattle.st_protocol.specs.Known.{in_quorum}
 use Rattle.st_protocol.specs.World.{Deployment, World, servers_of, is_correct, has_made}
 use Rattle.st_protocol.proofs.SameLaws.{same_statement-Decides}
+use Rattle.st_frame_laws.specs.Exact.{SignedInDeployment, QuorumIsExact}
 use Rattle.st_answer_laws.specs.Fair.{HasFewFaulty}
 use Rattle.st_answer_laws.specs.Plain.{with_made_by, made_by, sites_in, plain_of}
 use Rattle.st_answer_laws.specs.Sound.{indices, IsHonestSeal}
@@ -108,22 +110,19 @@ module _ {Wire : Type 0} (d : Deployment Wire) (world : World Wire) (few : HasFe
   quorum-did s t (x ∷ xs) honest k (inr among) correct = quorum-did s t xs honest.1 k among correct
 
   -- its servers are of the site
-  quorum-within : (q : Quorum) → IsTrue (all_of (knows_signed d.sites d.f d.clients) q) → (k : ℕ) → Has k (indices q) → Has k (numbers_below (servers_of d))
-  unfolding all_of
-  quorum-within [] known k has = absurd has
-  quorum-within (x ∷ xs) known k (inl same) =
-      subst (λ j. Has j (numbers_below (servers_of d))) (sym same) (has-numbers_below x.index (servers_of d) (ltb-true x.index (servers_of d) (first-of-two _ _ known)))
-  quorum-within (x ∷ xs) known k (inr among) = quorum-within xs (second-of-two _ _ known) k among
+  quorum-within : (q : Quorum) → Each (SignedInDeployment d) q → (k : ℕ) → Has k (indices q) → Has k (numbers_below (servers_of d))
+  quorum-within [] exact k has = absurd has
+  quorum-within (x ∷ xs) exact k (inl same) = subst (λ j. Has j (numbers_below (servers_of d))) (sym same) (has-numbers_below x.index (servers_of d) exact.0)
+  quorum-within (x ∷ xs) exact k (inr among) = quorum-within xs exact.1 k among
 
-  -- A known Quorum of distinct servers whose seals are honest.
-  pub a-quorum : (s : ℕ) (t : Statement) (q : Quorum) → IsTrue (knows_quorum d.sites d.f d.clients q) → Distinct (indices q) → AllOf (IsHonestSeal d world) (in_quorum s t q) →
+  -- An exact Quorum of distinct servers whose seals are honest.
+  pub a-quorum : (s : ℕ) (t : Statement) (q : Quorum) → QuorumIsExact d q → Distinct (indices q) → AllOf (IsHonestSeal d world) (in_quorum s t q) →
       IsQuorum d.f (numbers_below (servers_of d)) (is_correct d s) (Did s t) (indices q)
-  unfolding knows_quorum
-  a-quorum s t q known distinct honest =
+  a-quorum s t q exact distinct honest =
       record {
         distinct = distinct;
-        within = quorum-within q (second-of-two _ _ known);
-        many = omega (arith, eqb-true (length q) (2 * d.f + 1) (first-of-two _ _ known), length-map q (λ (x : Signed). x.index));
+        within = quorum-within q exact.1;
+        many = omega (arith, exact.0, length-map q (λ (x : Signed). x.index));
         honest = quorum-did s t q honest;
       }
 

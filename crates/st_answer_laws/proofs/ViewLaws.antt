@@ -1,7 +1,7 @@
 -- Changes of views: a union's certificate is held, and a report covers what its server prepared or accepted.
-use Rattle.std.proofs.Common.{◌≡◌, ℕ, ◌+◌, ◌<◌, ◌≤◌, ◌⊎◌, Bool, true, false, zero, suc, nat_lt, List, [], ◌∷◌, ◌++◌, refl, sym, ◌∙◌, ap, subst, inl, inr, arith}
-use Rattle.std.specs.Prelude.{◌-◌, Option, Some, is_some, IsTrue}
-use Rattle.std.proofs.lemmas.Bool.{eqb-true, ltb-true}
+use Rattle.std.proofs.Common.{◌≡◌, ℕ, ◌+◌, ◌<◌, ◌≤◌, ◌⊎◌, Bool, true, false, zero, suc, List, [], ◌∷◌, ◌++◌, refl, sym, ◌∙◌, ap, subst, inl, inr, arith}
+use Rattle.std.specs.Prelude.{◌-◌, Option, Some, is_some}
+use Rattle.std.proofs.lemmas.Bool.{eqb-true}
 use Rattle.st_words.specs.declared.deployment.TheConstants.{WINDOW}
 use Rattle.st_words.specs.declared.value.Value.{Value}
 use Rattle.st_words.specs.declared.statement.Item.{Item}
@@ -23,22 +23,22 @@ use Rattle.st_protocol.specs.Keeping.{given}
 use Rattle.st_protocol.specs.State.{OfLocal, OfGlobal, Held, Backed, Answers}
 use Rattle.st_protocol.specs.Step.{Steps, all_below, recording, not_site, other_view, seen}
 use Rattle.st_protocol.specs.Collecting.{item_of, in_window, report_statement, on_union, union_site, not_present}
-use Rattle.st_protocol.specs.Known.{knows, knows_statement, seals_of}
+use Rattle.st_protocol.specs.Known.{seals_of}
 use Rattle.st_protocol.specs.World.{Deployment, World}
 use Rattle.st_answer_laws.specs.Plain.{sites_in, plain_of}
 use Rattle.st_answer_laws.specs.Sound.{indices, IsSound}
 use Rattle.st_answer_laws.specs.Support.{Support, MayStep}
 use Rattle.st_answer_laws.proofs.RangeLaws.{quorum-distinct}
-use Rattle.st_answer_laws.proofs.SealLaws.{first-of-two, second-of-two, a-quorum, sealed-maker}
+use Rattle.st_answer_laws.proofs.SealLaws.{a-quorum, sealed-maker}
 use Rattle.st_answer_laws.proofs.NormalLaws.{decides-steps, not-false, Context}
 
 module _ {Wire : Type 0} (d : Deployment Wire) (world : World Wire) (s : ℕ) (q : Answers) (rs : List Change) (on : Context d world s q rs) where
   -- a union that was certified has a correct maker
-  union-maker : (t : Statement) (w : Quorum) → site_of t < d.sites → IsTrue (knows d.sites d.f d.clients (messages.Certificate t w)) → IsSound d world (messages.Certificate t w) → HasMaker (sites_in d) (plain_of d world) (site_of t) t
-  unfolding seals_of knows
-  union-maker t w exists known sound =
+  union-maker : (t : Statement) (w : Quorum) → site_of t < d.sites → IsSound d world (messages.Certificate t w) → HasMaker (sites_in d) (plain_of d world) (site_of t) t
+  unfolding seals_of
+  union-maker t w exists sound =
       sealed-maker d world on.few (site_of t) t (indices w) on.invariant exists
-      (a-quorum d world on.few (site_of t) t w (second-of-two _ _ known) (quorum-distinct w sound.ranged.0.1) sound.honest)
+      (a-quorum d world on.few (site_of t) t w sound.exact.1 (quorum-distinct w sound.ranged.0.1) sound.honest)
 
   -- A local union's certificate: it is held.
   pub local_union-may : (site local greatest base : ℕ) (items : List Item) (held : Option Held) (w : Quorum) (step : Step) → IsSound d world (messages.Certificate (local_union site local greatest base items) w) →
@@ -49,20 +49,18 @@ module _ {Wire : Type 0} (d : Deployment Wire) (world : World Wire) (s : ℕ) (q
       let of_site : site ≡ s = eqb-true site q.here.seat.site (not-false _ passed.0.0) ∙ on.support.site in
       let in_local : local ≡ local_of rs = eqb-true local q.here.local (not-false _ passed.0.1.0) ∙ on.support.tells.local in
       subst (λ (x : Step). MayStep (sites_in d) (plain_of d world) s rs x) passed.1
-      (record { simple = (tt, tt); may = ((of_site, in_local), (union-maker t w (subst (λ z. z < d.sites) (sym of_site) on.exists) sound.known sound, tt)); puts = tt })
+      (record { simple = (tt, tt); may = ((of_site, in_local), (union-maker t w (subst (λ z. z < d.sites) (sym of_site) on.exists) sound, tt)); puts = tt })
 
   -- A site's union's certificate: it is held.
   pub global_union-may : (site view base : ℕ) (items : List Item) (held : Option Held) (w : Quorum) (step : Step) → IsSound d world (messages.Certificate (global_union site view base items) w) →
       on_union q.here held (global_union site view base items) w ≡ Steps step → MayStep (sites_in d) (plain_of d world) s rs step
-  unfolding knows knows_statement
   global_union-may site view base items held w step sound e =
       let t : Statement = global_union site view base items in
       let passed = decides-steps (not_site q.here (union_site q.here t) ∷ other_view q.here (not_present q.here (Some (OfGlobal view))) ∷ seen (is_some held) ∷ []) (recording (Union t w)) step e in
       let in_view : view ≡ view_of rs = eqb-true view q.here.view (not-false _ passed.0.1.0) ∙ on.support.tells.view in
-      let known : IsTrue (knows_statement d.sites d.f d.clients t) = first-of-two _ _ sound.known in
-      let exists : site < d.sites = ltb-true site d.sites (first-of-two (nat_lt site d.sites) _ known) in
+      let exists : site < d.sites = sound.exact.0.0 in
       subst (λ (x : Step). MayStep (sites_in d) (plain_of d world) s rs x) passed.1
-      (record { simple = (tt, tt); may = ((exists, in_view), (union-maker t w exists sound.known sound, tt)); puts = tt })
+      (record { simple = (tt, tt); may = ((exists, in_view), (union-maker t w exists sound, tt)); puts = tt })
 
 -- ---- reports
 

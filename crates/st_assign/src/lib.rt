@@ -16,6 +16,3 @@ pub use filled::fill;
 pub use prepare::on_prepare;
 pub use proposal_share::on_proposal_share;
 pub use update::on_update;
-
-#[cfg(test)]
-mod tests;

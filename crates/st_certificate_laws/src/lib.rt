@@ -16,9 +16,9 @@ ghost use Rattle.st_protocol.specs.Words.{Bytes, Quorum, server_at, a_local_vc, 
 ghost use Rattle.st_protocol.specs.Keeping.{joined};
 ghost use Rattle.st_protocol.specs.Duty.{Clean};
 ghost use Rattle.st_protocol.specs.Certificates.{is_certificate, are_sites};
-ghost use Rattle.st_protocol.specs.World.{Deployment, empty};
+ghost use Rattle.st_protocol.specs.World.{Deployment, empty, reads};
 ghost use Rattle.st_protocol.specs.Schedule.{steps};
-ghost use Rattle.st_ranges.specs.Ranges.{MessageInRange};
+ghost use Rattle.st_ranges.specs.Ranges.{MessageInRange, ReadingInRange};
 ghost use Rattle.st_ranges.specs.Deployments.{DeploymentInRange, LineInRange};
 ghost use Rattle.st_honest_laws.specs.Honest.{SealsAreRead};
 ghost use Rattle.st_certificate_laws.specs.Certified.{record_is_certified, message_is_certified};
@@ -33,6 +33,15 @@ pub fn certificates_are_of_distinct_servers()
     ensures sites { (holds : Who → Statement → Bytes → Bool) (f sites : ℕ) (of_site : ℕ → Statement) (words : List SiteWord) → are_sites holds f sites of_site words ≡ true →
         (length words ≡ sites / 2 + 1) × AllPairs (λ (v w : SiteWord). v.site.0 < w.site.0) words
         × Each (λ (w : SiteWord). (w.site.0 < sites) × (is_certificate holds f sites w.site.0 (of_site w.site.0) w.quorum ≡ true)) words }
+{}
+
+/// In what a server reads as a message, its seals looked at, each certificate is one, of exactly 2f+1 distinct servers of
+/// its site whose seals check over its statement, and each proof of an order or of a view is one, of exactly a majority of
+/// distinct sites, each with its certificate: alone, behind an item of a report, as the proof of a report's base, and in
+/// each report of a bundle. It is asked that what is read, if it is a message, is in range.
+pub fn read_certificates_are_certificates<Wire>()
+    ensures { (d : Deployment Wire) (wire : Wire) (m : Message) → SealsAreRead d MessageInRange → ReadingInRange (d.formats.read wire) → reads d wire ≡ Clean m →
+        message_is_certified d.formats.holds d.f d.sites m ≡ true }
 {}
 
 /// In a deployment in range, and after lines in range, whatever faulty servers seal and whatever comes from outside: each
@@ -92,6 +101,8 @@ mod tests {
     #[test]
     fn laws_ask_nothing(rt: HostRuntime) {
         certificates_are_of_distinct_servers();
+        read_certificates_are_certificates::<Message>();
+        read_certificates_are_certificates::<Bytes>();
         recorded_certificates_are_certificates::<Message>();
         recorded_certificates_are_certificates::<Bytes>();
         sent_certificates_are_certificates::<Message>();

@@ -5,8 +5,6 @@
 mod client;
 mod laws;
 mod replies;
-#[cfg(test)]
-mod tests;
 
 pub use client::Client;
 pub use laws::{replies_in_a_world, submissions_in_a_world};

@@ -11,7 +11,7 @@ use st_words::Number;
 use std::alloc::Global;
 
 /// What a server answered: the number at which the update ran, and what it gave.
-#[derive(Debug, Drop)]
+#[derive(Drop)]
 pub struct Answer {
     pub number: Number,
     pub result: Bytes,

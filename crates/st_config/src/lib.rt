@@ -7,6 +7,3 @@ mod parts;
 
 pub use built::is_built;
 pub use header::{ConfigError, read_header};
-
-#[cfg(test)]
-mod tests;

@@ -61,19 +61,3 @@ pub fn sites_majority()
     ensures { (n : ℕ) (p : ℕ → Bool) (sites : List ℕ) → length sites ≡ n / 2 + 1 →
         Distinct sites → AllOf (λ s. (s < n) × IsTrue (p s)) sites → HasMajority (numbers_below n) p }
 {}
-
-#[cfg(test)]
-mod tests {
-    use super::*;
-
-    #[test]
-    fn laws_hold_at_a_type() {
-        counting::<u8>();
-        distinct_elements::<u8>();
-        numbers();
-        tests_share::<u8>();
-        majorities_share::<u8>();
-        quorum_stands::<u8>();
-        sites_majority();
-    }
-}

@@ -86,8 +86,8 @@ pub capacity_same : (kind : SealKind) → capacity_by kind ≡ capacity_of kind
 capacity_same Keyed = refl
 capacity_same (Hss height width levels) = refl
 
--- a result has four bytes
-list_serve_keeps : ServeKeeps list_serve
+-- A result of the list service has four bytes.
+pub list_serve_keeps : ServeKeeps list_serve
 unfolding list_serve
 list_serve_keeps ran op short = omega arith
 

@@ -22,6 +22,3 @@ pub use file_disks::FileDisks;
 pub use memory::MemoryDisk;
 pub use memory_disks::MemoryDisks;
 pub use worn::WornDisk;
-
-#[cfg(test)]
-mod tests;

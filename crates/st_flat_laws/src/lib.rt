@@ -17,15 +17,3 @@ pub fn advances_are_flat_steps()
         ((n : ℕ) → ProposesWithin top values (new n)) → LeadsFlat old new }
     ensures steps { (old new : ℕ → Tests Value) (leads : LeadsFlat old new) → Along FlatStep old (leads.before leads.numbers) }
 {}
-
-#[cfg(test)]
-mod tests {
-    use super::*;
-    use std::test::*;
-
-    #[test]
-    fn laws_ask_nothing(rt: HostRuntime) {
-        advances_are_flat_steps();
-        assert!(rt; true);
-    }
-}

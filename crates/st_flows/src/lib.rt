@@ -101,22 +101,3 @@ pub fn deliveries_to_servers<Wire>()
     ensures faulty { (d : Deployment Wire) (world : World Wire) (site index : ℕ) (wire : Wire) → d.faulty site index ≡ true →
         serves d world site index (Deliver wire) ≡ stepped world done.Faulty }
 {}
-
-#[cfg(test)]
-mod tests {
-    use super::*;
-    use st_message::Message;
-    use std::test::*;
-
-    #[test]
-    fn laws_ask_nothing(rt: HostRuntime) {
-        ended_worlds_stay_ended::<Message>();
-        plain_worlds_stay_plain::<Message>();
-        flows_one_by_one::<Message>();
-        sends_of_no_bytes::<Message>();
-        worlds_stay_small::<Message>();
-        lines_one_by_one::<Message>();
-        deliveries_to_servers::<Message>();
-        assert!(rt; true);
-    }
-}

@@ -8,3 +8,4 @@ pub mod CourseFrame
 pub mod WorldFrame
 pub mod NodeFrame
 pub mod SentFrame
+pub mod ExactLaws

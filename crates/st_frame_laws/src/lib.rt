@@ -16,18 +16,3 @@ pub fn lines_keep_what_events_keep<Wire>()
         IsKeptByEvents d (λ w. holds w ≡ true) (λ w wire. may_be_delivered w wire ≡ true) (λ line. may_come line ≡ true) →
         Each (λ line. may_come line ≡ true) all → holds world ≡ true → holds (steps d world all) ≡ true }
 {}
-
-#[cfg(test)]
-mod tests {
-    use super::*;
-    use st_fields::Bytes;
-    use st_message::Message;
-    use std::test::*;
-
-    #[test]
-    fn laws_ask_nothing(rt: HostRuntime) {
-        lines_keep_what_events_keep::<Message>();
-        lines_keep_what_events_keep::<Bytes>();
-        assert!(rt; true);
-    }
-}

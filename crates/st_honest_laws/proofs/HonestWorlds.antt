@@ -21,7 +21,7 @@ use Rattle.st_message.specs.declared.change.Change.{Change}
 use Rattle.st_message.specs.declared.change.Change.TheVariants.{EnterLocal, EnterGlobal, Made, Prepared, Accepted, Union, Executed}
 use Rattle.st_message.specs.declared.change.Heard.{Heard}
 use Rattle.st_message.specs.declared.made.MadeSeal.{MadeSeal}
-use Rattle.st_message.specs.declared.reason.Reason.TheVariants.{Unknown, BadSeal}
+use Rattle.st_message.specs.declared.reason.Reason.TheVariants.{BadSeal}
 use Rattle.st_schedule.specs.declared.line.Line.{Line}
 use Rattle.st_schedule.specs.declared.line.Line.TheVariants as lines
 use Rattle.st_protocol.specs.Words.{Bytes, a_local_vc, a_prepare, server_at, client_at, an_update, site_of}
@@ -29,12 +29,14 @@ use Rattle.st_protocol.specs.Keeping.{given, gathered, open_if}
 use Rattle.st_protocol.specs.State.{Seat, Word, Answers, open_number}
 use Rattle.st_protocol.specs.Questions.{questions}
 use Rattle.st_protocol.specs.Assigning.{is_empty}
-use Rattle.st_protocol.specs.Known.{Sealed, knows, knows_statement, seals_of}
+use Rattle.st_protocol.specs.Known.{Sealed, seals_of}
 use Rattle.st_protocol.specs.Duty.{Event, Deliver, LocalTimeout, GlobalTimeout, Tick, Reading, Faulty, Clean}
-use Rattle.st_protocol.specs.World.{SealIn, Deployment, Fault, Node, Pair, Customer, World, empty, fresh_node, has_made, handed, Forged, first_bad, with_node, with_customer, with_waiting, ends, hands, seat_of, is_server, checks_in, bad_seal, with_known, with_seals, reads, pen_at, dests_of, sends_to, hands_out, settled, stands_stopped, plan_at}
+use Rattle.st_protocol.specs.World.{SealIn, Deployment, Fault, Node, Pair, Customer, World, empty, fresh_node, has_made, handed, Forged, first_bad, with_node, with_customer, with_waiting, ends, hands, seat_of, is_server, checks_in, bad_seal, with_seals, read_known, reads, pen_at, dests_of, sends_to, hands_out, settled, stands_stopped, plan_at}
 use Rattle.st_protocol.specs.Schedule.{sealed_message, restarted, client_seal_of, seals, is_correct_who, is_honest, forged_by, is_sealable, steps}
 use Rattle.st_protocol.proofs.QuestionLaws.{one_body}
 use Rattle.st_honest_laws.specs.Honest.{without_place, in_change, SealsAreRead, IsHonest}
+use Rattle.st_frame_laws.specs.Exact.{StatementInDeployment, MessageIsExact}
+use Rattle.st_frame_laws.proofs.ExactLaws.{known_parts}
 use Rattle.st_frame_laws.proofs.ChoiceLaws.{append_all, each_any, found_has}
 use Rattle.st_frame_laws.proofs.StateFrame.{StateHas, forgets_has, nothing_has}
 use Rattle.st_frame_laws.proofs.OwnFrame.{own_nothing}
@@ -239,37 +241,28 @@ module _ {Wire : Type 0} (d : Deployment Wire) (final : List MadeSeal) where
 
     -- ---- what is delivered
 
-    -- the site of a known statement leads its view
-    led : (s : Statement) → knows_statement d.sites d.f d.clients s ≡ true → (seat : Seat) → seat.sites ≡ d.sites → Leads (IsHonest d final) seat s
-    unfolding knows_statement
-    led (Prepare site view local number value) e seat is =
-        subst (λ n. site.0 ≡ view.0 % n) (sym is) (sym (eqb-true (view.0 % d.sites) site.0 (and_parts _ (nat_eq (view.0 % d.sites) site.0) (and_parts _ _ e).0).1))
-    led (Proposal site view local number value) e seat is =
-        subst (λ n. site.0 ≡ view.0 % n) (sym is) (sym (eqb-true (view.0 % d.sites) site.0 (and_parts _ (nat_eq (view.0 % d.sites) site.0) (and_parts _ _ e).0).1))
-    led _ e seat is = tt
+    -- the site of a statement leads its view
+    led : (s : Statement) → StatementInDeployment d s → (seat : Seat) → seat.sites ≡ d.sites → Leads (IsHonest d final) seat s
+    led (Prepare site view local number value) h seat is = subst (λ n. site.0 ≡ view.0 % n) (sym is) (sym h.0.1)
+    led (Proposal site view local number value) h seat is = subst (λ n. site.0 ≡ view.0 % n) (sym is) (sym h.0.1)
+    led _ h seat is = tt
 
-    led_message : (site index : ℕ) (m : Message) → knows d.sites d.f d.clients m ≡ true → Led (IsHonest d final) (seat_of d site index) m
-    unfolding knows
-    led_message site index (messages.Share s signed) e = led s (and_parts _ _ e).0 (seat_of d site index) refl
-    led_message site index (messages.Certificate s q) e = led s (and_parts _ _ e).0 (seat_of d site index) refl
-    led_message site index _ e = tt
+    led_message : (site index : ℕ) (m : Message) → MessageIsExact d m → Led (IsHonest d final) (seat_of d site index) m
+    led_message site index (messages.Share s signed) h = led s h.0 (seat_of d site index) refl
+    led_message site index (messages.Certificate s q) h = led s h.0 (seat_of d site index) refl
+    led_message site index _ h = tt
 
     -- a message on its way, as a server reads it
     reads_have : (site index : ℕ) (wire : Wire) → WireHas wire → ReadingHas (TakenHas (IsHonest d final) (seat_of d site index)) (reads d wire)
-    reads_have site index wire h = by (d.formats.read wire) refl
+    reads_have site index wire h = by (read_known d wire) refl
       where
         sealed : (m : Message) → TakenHas (IsHonest d final) (seat_of d site index) m → (bad : Option ℕ) → ReadingHas (TakenHas (IsHonest d final) (seat_of d site index)) (given bad (Clean m) (λ place. Faulty (BadSeal place)))
         sealed m g None = g
         sealed m g (Some place) = tt
 
-        known : (m : Message) → d.formats.read wire ≡ Clean m → (b : Bool) → d.formats.knows m ≡ b →
-            ReadingHas (TakenHas (IsHonest d final) (seat_of d site index)) (with_seals d (cond b (Clean m) (Faulty Unknown)))
-        known m e true k = sealed m (h m e, led_message site index m (formats.known wire m e k)) (bad_seal d m)
-        known m e false k = tt
-
-        by : (r : Reading) → d.formats.read wire ≡ r → ReadingHas (TakenHas (IsHonest d final) (seat_of d site index)) (with_seals d (with_known d r))
+        by : (r : Reading) → read_known d wire ≡ r → ReadingHas (TakenHas (IsHonest d final) (seat_of d site index)) (with_seals d r)
         by (Faulty reason) e = tt
-        by (Clean m) e = known m e (d.formats.knows m) refl
+        by (Clean m) e = sealed m (h m (known_parts d wire m e).0, led_message site index m (formats.exact wire m e)) (bad_seal d m)
 
     -- bytes from outside in which no seal is forged
     module _ (world : World Wire) (c : Covers final world.made) where

@@ -13,6 +13,3 @@ pub use error::HssError;
 pub use key::HssKey;
 pub use laws::{hss_seal_lengths, hss_sealed_checks};
 pub use secret::{HssSecret, Levels};
-
-#[cfg(test)]
-mod tests;

@@ -10,6 +10,3 @@ mod scheme;
 pub use deployment::{DeploymentSeals, PartySealer, is_choice};
 pub use hss::{HssSealer, HssSeals};
 pub use laws::{no_empty_seal_checks, what_parties_seal_checks};
-
-#[cfg(test)]
-mod tests;

@@ -1,8 +1,8 @@
 -- What a course executes and keeps of other servers: a Reply, a report and the fill add nothing to that.
-use Rattle.std.proofs.Common.{◌≡◌, ℕ, ◌+◌, Bool, true, false, cond, zero, suc, nat_eq, List, [], ◌∷◌, ◌++◌, refl, sym, ◌∙◌, ap, append_assoc, append-nil}
-use Rattle.std.specs.Prelude.{Option, Some, None, is_some, nat_lt, nat_le, ◌&&◌, ◌%◌, not, min, ◌-◌}
+use Rattle.std.proofs.Common.{◌≡◌, ℕ, Bool, true, false, cond, List, [], ◌∷◌, ◌++◌, refl, sym, ◌∙◌, ap, append_assoc, append-nil}
+use Rattle.std.specs.Prelude.{Option}
+use Rattle.std.specs.List.{AllByRecursion as Each}
 use Rattle.std.proofs.lemmas.List.Elements.{filter-append}
-use Rattle.st_words.specs.declared.deployment.TheConstants.{WINDOW, LAST_NUMBER}
 use Rattle.st_words.specs.declared.value.Value.{Value}
 use Rattle.st_words.specs.declared.value.Value.TheVariants as values
 use Rattle.st_words.specs.declared.statement.Statement.{Statement}
@@ -15,17 +15,27 @@ use Rattle.st_message.specs.declared.step.Form.TheVariants as forms
 use Rattle.st_message.specs.declared.step.Out.{Out}
 use Rattle.st_message.specs.declared.step.Out.TheVariants.{Make}
 use Rattle.st_message.specs.declared.step.Step.{Step}
-use Rattle.st_protocol.specs.Words.{Bytes, a_prepare, a_reply, to_client_at}
-use Rattle.st_protocol.specs.Keeping.{given}
-use Rattle.st_protocol.specs.State.{AtPrepare, Here, Slots, Pended, Answers}
+use Rattle.st_protocol.specs.Words.{a_prepare, to_client_at}
+use Rattle.st_protocol.specs.State.{Here, Slots, Pended, Answers}
 use Rattle.st_protocol.specs.Questions.{is_executed}
-use Rattle.st_protocol.specs.Step.{idle, rep, leader}
-use Rattle.st_protocol.specs.Forced.{Forced, forced_of, waits}
-use Rattle.st_protocol.specs.Assigning.{Filling, fill_value, fill_makes, fill_number, fills, fill}
+use Rattle.st_protocol.specs.Forced.{Forced, forced_of}
+use Rattle.st_protocol.specs.Assigning.{fill_value, fill}
 use Rattle.st_protocol.specs.Duty.{Pen, Course, begins, records, keeps, puts, emits, makes, statement_in, message_in, reports_as, base_proof, reports, replies, carries_change, carries_changes, keeps_all, emits_all, carries, fills_up, course}
 use Rattle.st_protocol.specs.Collecting.{make_report}
+use Rattle.st_frame_laws.proofs.ChoiceLaws.{either, append_all, if_any}
+use Rattle.st_frame_laws.proofs.CourseFrame.{answers_client, reply_to, fill_at}
+use Rattle.st_frame_laws.proofs.FillFrame.{fill_kept}
 use Rattle.st_in_hand.specs.InHand.{executing}
 use Rattle.st_in_hand.proofs.HeardLaws.{is_other, others}
+
+-- a change that executes no number
+abbrev pub ExecutesNone : Change → Type 0
+ExecutesNone x = is_executed x ≡ false
+
+-- such changes execute nothing
+pub none_executing : (xs : List Change) → Each ExecutesNone xs → executing xs ≡ []
+none_executing [] h = refl
+none_executing (x ∷ xs) h = ap (λ (b : Bool). cond b (x ∷ executing xs) (executing xs)) h.0 ∙ none_executing xs h.1
 
 -- From one course to a later one these executions and these messages of other servers were added.
 pub record Adds (before after : Course) (executions : List Change) (messages : List Heard) : Type 0 where
@@ -75,21 +85,12 @@ adds_reports : (pen : Pen) (global : Bool) (w : Course) → Adds w (reports pen 
 unfolding reports
 adds_reports pen global w = adds_report pen w (make_report w.now.here w.now.slots (base_proof w.now) global)
 
--- either of two courses
-adds_either : (w u v : Course) (b : Bool) → Adds w u [] [] → Adds w v [] [] → Adds w (cond b u v) [] []
-adds_either w u v true a c = a
-adds_either w u v false a c = c
-
 adds_replies : (pen : Pen) (was : Answers) (v : Value) (w : Course) → Adds w (replies pen was v w) [] []
 unfolding replies
 adds_replies pen was values.Noop w = adds_nothing w
 adds_replies pen was (values.Update u) w =
-    adds_either w
-    (makes pen w (a_reply was.here.seat.site u.client.0 u.time (was.here.executed + 1) (was.here.seat.serve was.log.run.ran u.op)) forms.Reply (to_client_at u.client.0))
-    w
-    (nat_lt (was.log.run.last u.client.0) u.time && nat_eq (u.client.0 % was.here.seat.sites) was.here.seat.site && nat_lt was.here.leaf was.here.seat.capacity)
-    (adds_makes pen w (a_reply was.here.seat.site u.client.0 u.time (was.here.executed + 1) (was.here.seat.serve was.log.run.ran u.op)) forms.Reply (to_client_at u.client.0))
-    (adds_nothing w)
+    either (λ (v : Course). Adds w v [] []) (answers_client was u) (makes pen w (reply_to was u) forms.Reply (to_client_at u.client.0)) w
+    (adds_makes pen w (reply_to was u) forms.Reply (to_client_at u.client.0)) (adds_nothing w)
 
 adds_change : (pen : Pen) (w : Course) (x : Change) → Adds w (carries_change pen w x) (executing (x ∷ [])) []
 unfolding carries_change
@@ -134,60 +135,30 @@ adds_step pen w step =
 
 -- ---- the fill
 
--- A step that executes nothing, and keeps nothing.
-pub record OnlyMakes (step : Step) : Type 0 where
-  pub executes : executing step.changes ≡ []
-  pub hears : step.heard ≡ []
+-- a step that executes nothing, and keeps nothing
+abbrev OnlyMakes : Step → Type 0
+OnlyMakes step = Each ExecutesNone step.changes × (step.heard ≡ [])
 
--- either of two steps
-makes_either : (b : Bool) (s t : Step) → OnlyMakes s → OnlyMakes t → OnlyMakes (cond b s t)
-makes_either true s t h k = h
-makes_either false s t h k = k
-
--- one number more
-fill_makes_only : (here : Here) (filling : Filling) (n : ℕ) (x : Value × Bytes) → OnlyMakes filling.step → OnlyMakes (fill_makes here filling n x).step
-fill_makes_only here filling n x h =
-    let made : Change = Made filling.leaf (a_prepare here.seat.site here.view here.local n x.0) in
-    record {
-      executes = filter-append is_executed filling.step.changes (made ∷ []) ∙ ap (λ ys. ys ++ []) h.executes;
-      hears = ap (λ ms. ms ++ []) h.hears;
-    }
-
--- so many numbers
-fills_only : (here : Here) (pending : ℕ → Option Pended) (forced : Forced) (k n : ℕ) (filling : Filling) → OnlyMakes filling.step →
-    OnlyMakes (fills here pending forced k n filling).step
-unfolding fills fill_number
-fills_only here pending forced zero n filling h = h
-fills_only here pending forced (suc k) n filling h =
-    by_made (is_some (filling.slots.made (AtPrepare here.view here.local n))) (nat_le here.seat.capacity filling.leaf) (fill_value here filling.slots pending forced n)
-    (λ next. fills_only here pending forced k (n + 1) next)
-  where
-    by_made : (made spent : Bool) (value : Option (Value × Bytes)) →
-        ((next : Filling) → OnlyMakes next.step → OnlyMakes (fills here pending forced k (n + 1) next).step) →
-        OnlyMakes (given (cond made (Some filling) (cond spent None (given value None (λ x. Some (fill_makes here filling n x))))) filling (fills here pending forced k (n + 1))).step
-    by_made true spent value more = more filling h
-    by_made false true value more = h
-    by_made false false None more = h
-    by_made false false (Some x) more = more (fill_makes here filling n x) (fill_makes_only here filling n x h)
-
--- the whole fill
+-- the fill is one
 fill_only : (here : Here) (slots : Slots) (pending : ℕ → Option Pended) (forced : Forced) → OnlyMakes (fill here slots pending forced)
-unfolding fill
 fill_only here slots pending forced =
-    makes_either (nat_eq here.seat.index (rep here) && nat_eq here.seat.site (leader here) && not (waits forced)) _ idle
-    (fills_only here pending forced (min (here.executed + WINDOW) LAST_NUMBER - forced.base) (forced.base + 1) (record { step = idle; leaf = here.leaf; slots = slots }) (record { executes = refl; hears = refl }))
-    (record { executes = refl; hears = refl })
+    fill_kept OnlyMakes (λ x. Unit {0}) here pending forced slots (tt, refl)
+    (λ may.
+    record {
+      value = λ slots n. if_any (fill_value here slots pending forced n);
+      assigning = λ step leaf n x h any.
+          (append_all ExecutesNone step.changes (Made leaf (a_prepare here.seat.site here.view here.local n x.0) ∷ []) h.0 (refl, tt), ap (λ (ms : List Heard). ms ++ []) h.1);
+    })
 
 -- it adds nothing
 adds_fill : (pen : Pen) (w : Course) → Adds w (fills_up pen w) [] []
 unfolding fills_up
 adds_fill pen w =
-    let step : Step = fill w.now.here w.now.slots w.now.pending (forced_of w.now.here w.now.unions) in
-    let only : OnlyMakes step = fill_only w.now.here w.now.slots w.now.pending (forced_of w.now.here w.now.unions) in
-    let all : Adds w (carries pen w step) (executing step.changes) (others step.heard) = adds_step pen w step in
+    let only : OnlyMakes (fill_at w.now) = fill_only w.now.here w.now.slots w.now.pending (forced_of w.now.here w.now.unions) in
+    let all : Adds w (carries pen w (fill_at w.now)) (executing (fill_at w.now).changes) (others (fill_at w.now).heard) = adds_step pen w (fill_at w.now) in
     record {
-      executes = all.executes ∙ ap (λ ys. executing w.changes ++ ys) only.executes;
-      hears = all.hears ∙ ap (λ ms. others w.heard ++ others ms) only.hears;
+      executes = all.executes ∙ ap (λ ys. executing w.changes ++ ys) (none_executing (fill_at w.now).changes only.0);
+      hears = all.hears ∙ ap (λ ms. others w.heard ++ others ms) only.1;
     }
 
 -- ---- the whole course

@@ -1,10 +1,8 @@
 -- An event executes what is in hand once its message was heard, and leaves nothing in hand.
-use Rattle.std.proofs.Common.{◌≡◌, ℕ, ◌+◌, ◌<◌, ◌≤◌, Bool, true, false, cond, List, [], ◌∷◌, ◌++◌, length, refl, sym, ◌∙◌, ap, subst, arith}
+use Rattle.std.proofs.Common.{◌≡◌, ℕ, ◌+◌, ◌<◌, ◌≤◌, Bool, false, List, [], ◌∷◌, ◌++◌, length, refl, sym, ◌∙◌, ap, subst, arith}
 use Rattle.std.specs.Prelude.{None, nat_lt, nat_le, is_some}
 use Rattle.std.proofs.lemmas.Bool.{ltb-false, ne_eqb, or_parts}
 use Rattle.st_words.specs.declared.deployment.TheConstants.{WINDOW}
-use Rattle.st_words.specs.declared.statement.Statement.{Statement}
-use Rattle.st_words.specs.declared.statement.Statement.TheVariants.{Prepare, Proposal, Accept, LocalVc, GlobalVc, LocalReport, GlobalReport, LocalUnion, GlobalUnion, Reply, ClientUpdate}
 use Rattle.st_words.specs.declared.value.Value.{Value}
 use Rattle.st_message.specs.declared.message.Proof.{Proof}
 use Rattle.st_message.specs.declared.message.Message.{Message}
@@ -12,23 +10,21 @@ use Rattle.st_message.specs.declared.message.Message.TheVariants as messages
 use Rattle.st_message.specs.declared.change.Change.{Change}
 use Rattle.st_message.specs.declared.change.Heard.{Heard}
 use Rattle.st_message.specs.declared.reason.Reason.{Reason}
-use Rattle.st_message.specs.declared.reason.Reason.TheVariants.{NotBuilt}
 use Rattle.st_message.specs.declared.step.Step.{Step}
 use Rattle.st_protocol.specs.Words.{Quorum, an_accept}
-use Rattle.st_protocol.specs.State.{OfLocal, OfGlobal, report_of, Seat, Here, Hand, Answers}
+use Rattle.st_protocol.specs.State.{Seat, Here, Hand, Answers}
 use Rattle.st_protocol.specs.Questions.{questions}
 use Rattle.st_protocol.specs.Growth.{hand_takes, hand_cuts, hears, takes, cuts}
 use Rattle.st_protocol.specs.Step.{Answer, Refused, Steps, idle, decides, out_of_window, beyond, seen, full}
-use Rattle.st_protocol.specs.Forced.{forced_of}
-use Rattle.st_protocol.specs.Views.{on_local_timeout, on_global_timeout, on_global_vc}
 use Rattle.st_protocol.specs.Ordering.{in_hand, executions, is_seen_word, accept_step, on_accept, on_order_proof, keeps_and_executes}
-use Rattle.st_protocol.specs.Duty.{Event, Deliver, LocalTimeout, GlobalTimeout, Tick, Reading, Faulty, Clean, Pen, Course, course, plan_by, plan_of, duty, of_share, of_certificate, of_view_proof, reports_at, of_bundle, of_kind, of_reading, of_event, is_built_message, tick_out}
+use Rattle.st_protocol.specs.Duty.{Event, Reading, Pen, Course, course, plan_by, plan_of, duty, of_event}
 use Rattle.st_protocol.proofs.QuestionLaws.{one_heard}
+use Rattle.st_frame_laws.proofs.PartFrame.{decides_fits}
 use Rattle.st_in_hand.specs.InHand.{in_hand_at, IsUpToDate, ExecutesFrom, executing, ExecutesInHand}
 use Rattle.st_in_hand.proofs.HeardLaws.{heard_proof, in_hand-open, IsSilent, heard_proof-silent, heard_proof-same}
 use Rattle.st_in_hand.proofs.ExecutionLaws.{executes_same, executes_until, executions_execute, executed_more}
-use Rattle.st_in_hand.proofs.CourseLaws.{course_executes, course_hears}
-use Rattle.st_in_hand.proofs.QuietLaws.{IsQuiet, IsQuietAnswer, quiet_idle, quiet_local_timeout, quiet_global_timeout, quiet_global_vc, quiet_add_report, quiet_union, quiet_ask, quiet_of_update, quiet_of_assign, quiet_of_share, quiet_of_proposal, quiet_of_bundle, quiet_of_view_proof}
+use Rattle.st_in_hand.proofs.CourseLaws.{none_executing, course_executes, course_hears}
+use Rattle.st_in_hand.proofs.QuietLaws.{IsQuiet, IsQuietAnswer, all_silent, event_by}
 
 -- ---- messages that order one number
 
@@ -61,15 +57,9 @@ module _ (seat : Seat) (records : List (List Change)) (heard : List Heard) where
   IsDueAnswer (Refused reason) = Unit {0}
   IsDueAnswer (Steps step) = IsDue step.changes step.heard
 
-  -- either of two answers
-  due_either : (b : Bool) (x y : Answer) → IsDueAnswer x → IsDueAnswer y → IsDueAnswer (cond b x y)
-  due_either true x y h k = h
-  due_either false x y h k = k
-
   -- a reason, or such a step
   due_decides : (ts : List (Bool × Reason)) (step : Step) → IsDue step.changes step.heard → IsDueAnswer (decides ts step)
-  due_decides [] step h = h
-  due_decides (t ∷ ts) step h = due_either t.0 (Refused t.1) (decides ts step) tt (due_decides ts step h)
+  due_decides ts step h = decides_fits IsDueAnswer (λ reason. tt) ts step (λ none. h)
 
   -- once more was heard the server has executed as much
   executed_hearing : (more : List Heard) → (questions seat records more).here.executed ≡ before.here.executed
@@ -90,9 +80,9 @@ module _ (seat : Seat) (records : List (List Change)) (heard : List Heard) where
     quiet_is_due step h =
         record {
           executes =
-              subst (λ xs. ExecutesFrom (heard_proof seat (heard ++ step.heard)) (before.here.executed + 1) xs) (sym h.executes)
-              (heard_proof-silent seat heard step.heard (before.here.executed + 1) (h.hears (before.here.executed + 1)) ∙ next_none);
-          beyond = λ n above. heard_proof-silent seat heard step.heard n (h.hears n);
+              subst (λ xs. ExecutesFrom (heard_proof seat (heard ++ step.heard)) (before.here.executed + 1) xs) (sym (none_executing step.changes h.0))
+              (heard_proof-silent seat heard step.heard (before.here.executed + 1) (all_silent (before.here.executed + 1) step.heard h.1) ∙ next_none);
+          beyond = λ n above. heard_proof-silent seat heard step.heard n (all_silent n step.heard h.1);
         }
 
     quiet_answer_is_due : (answer : Answer) → IsQuietAnswer answer → IsDueAnswer answer
@@ -131,11 +121,7 @@ module _ (seat : Seat) (records : List (List Change)) (heard : List Heard) where
 
     -- a number beyond the window is refused, and otherwise the step is due
     due_within : (n : ℕ) (ts : List (Bool × Reason)) (step : Step) → (n ≤ before.here.executed + WINDOW → IsDue step.changes step.heard) → IsDueAnswer (decides (beyond before.here n ∷ ts) step)
-    due_within n ts step h = by_window (out_of_window before.here n) refl
-      where
-        by_window : (b : Bool) → out_of_window before.here n ≡ b → IsDueAnswer (cond b (Refused (beyond before.here n).1) (decides ts step))
-        by_window true e = tt
-        by_window false e = due_decides ts step (h (within before.here n e))
+    due_within n ts step h = decides_fits IsDueAnswer (λ reason. tt) (beyond before.here n ∷ ts) step (λ none. h (within before.here n none.0))
 
     due_accept : (site view n : ℕ) (value : Value) (q : Quorum) → IsDueAnswer (on_accept before.here before.hand site view n value q)
     due_accept site view n value q =
@@ -147,54 +133,8 @@ module _ (seat : Seat) (records : List (List Change)) (heard : List Heard) where
         due_within n (seen (is_some (before.hand.proof n)) ∷ full n ∷ []) (keeps_and_executes before.here before.hand (messages.OrderProof (record { 0 = n }) p))
         (λ inside. orders_is_due (messages.OrderProof (record { 0 = n }) p) n inside (silent_proof n p))
 
-    due_certificate : (s : Statement) (q : Quorum) → IsDueAnswer (of_certificate before s q)
-    due_certificate (Accept site view number value) q = due_accept site.0 view.0 number.0 value q
-    due_certificate (Proposal site view local number value) q =
-        quiet_answer_is_due _ (quiet_of_proposal before.here before.slots site.0 view.0 local.0 number.0 value q)
-    due_certificate (GlobalVc site view) q = quiet_answer_is_due (on_global_vc before.here before.votes site.0 view.0 q) (quiet_global_vc before.here before.votes site.0 view.0 q)
-    due_certificate (LocalUnion site local greatest base items) q =
-        quiet_answer_is_due (of_certificate before (LocalUnion site local greatest base items) q)
-        (quiet_union before.here (before.unions (OfLocal local.0) site.0) (LocalUnion site local greatest base items) q)
-    due_certificate (GlobalUnion site view base items) q =
-        quiet_answer_is_due (of_certificate before (GlobalUnion site view base items) q)
-        (quiet_union before.here (before.unions (OfGlobal view.0) site.0) (GlobalUnion site view base items) q)
-    due_certificate (Prepare site view local number value) q = tt
-    due_certificate (LocalVc site local) q = tt
-    due_certificate (LocalReport site local index view base items) q = tt
-    due_certificate (GlobalReport site view index base items) q = tt
-    due_certificate (Reply site client time number result) q = tt
-    due_certificate (ClientUpdate update) q = tt
-
-    due_kind : (m : Message) → IsDueAnswer (of_kind before m)
-    due_kind (messages.Update u seal) =
-        quiet_answer_is_due (of_kind before (messages.Update u seal))
-        (quiet_of_update before.here before.pending (before.log.run.last u.client.0) (before.making.reply (before.log.run.place u.client.0)) u seal)
-    due_kind (messages.Assign view local number value client_seal signed) =
-        quiet_answer_is_due (of_kind before (messages.Assign view local number value client_seal signed))
-        (quiet_of_assign before.here before.slots (forced_of before.here before.unions) view.0 local.0 number.0 value client_seal signed)
-    due_kind (messages.Share s signed) = quiet_answer_is_due (of_share before s signed) (quiet_of_share before s signed)
-    due_kind (messages.Certificate s q) = due_certificate s q
-    due_kind (messages.OrderProof number p) = due_order_proof number.0 p
-    due_kind (messages.Report r) =
-        quiet_answer_is_due (of_kind before (messages.Report r)) (quiet_add_report before.here (reports_at before (report_of r.statement)) r)
-    due_kind (messages.Bundle rs) = quiet_answer_is_due (of_bundle before rs) (quiet_of_bundle before rs)
-    due_kind (messages.ViewProof words) = quiet_answer_is_due (of_view_proof before words) (quiet_of_view_proof before words)
-    due_kind (messages.Ask server executed view local) =
-        quiet_answer_is_due (of_kind before (messages.Ask server executed view local))
-        (quiet_ask before.here before.log.proof before.words server executed view.0 local.0)
-    due_kind (messages.Reply s signed) = tt
-
-    due_reading : (r : Reading) → IsDueAnswer (of_reading before r)
-    due_reading (Faulty reason) = tt
-    due_reading (Clean m) = due_either (is_built_message m) (of_kind before m) (Refused NotBuilt) (due_kind m) tt
-
     due_event : {Wire : Type 0} (read : Wire → Reading) (event : Event Wire) → IsDueAnswer (of_event read before event)
-    due_event read (Deliver wire) = due_reading (read wire)
-    due_event read LocalTimeout =
-        quiet_answer_is_due (on_local_timeout before.here (before.making.vc (OfLocal (before.here.local + 1)))) (quiet_local_timeout before.here (before.making.vc (OfLocal (before.here.local + 1))))
-    due_event read GlobalTimeout =
-        quiet_answer_is_due (on_global_timeout before.here (before.making.vc (OfGlobal (before.here.view + 1)))) (quiet_global_timeout before.here (before.making.vc (OfGlobal (before.here.view + 1))))
-    due_event read Tick = quiet_is_due (record { changes = []; heard = []; out = tick_out before }) (record { executes = refl; hears = λ n. tt })
+    due_event read event = event_by before IsDueAnswer quiet_answer_is_due due_accept due_order_proof read event
 
     -- ---- the plan
 
@@ -212,7 +152,7 @@ module _ (seat : Seat) (records : List (List Change)) (heard : List Heard) where
 
     -- so is an answer
     due_plan_by : (pen : Pen) (answer : Answer) → IsDueAnswer answer → IsDue (plan_by pen before answer).changes (plan_by pen before answer).heard
-    due_plan_by pen (Refused reason) due = quiet_is_due idle quiet_idle
+    due_plan_by pen (Refused reason) due = quiet_is_due idle (tt, tt)
     due_plan_by pen (Steps step) due = due_course pen step due
 
     -- So is the plan of an event.

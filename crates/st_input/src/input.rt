@@ -15,7 +15,7 @@ use st_words::Deployment;
 use std::alloc::Global;
 
 /// An event line, with the line's number in the whole input, from 1.
-#[derive(Debug, Drop)]
+#[derive(Drop)]
 pub struct InputLine {
     pub number: u32,
     pub line: Line,
@@ -25,7 +25,7 @@ pub struct InputLine {
 pub type InputLines = Seq<InputLine>;
 
 /// What an input says.
-#[derive(Debug, Drop)]
+#[derive(Drop)]
 pub struct Input {
     pub deployment: Deployment,
     pub lines: InputLines,

@@ -11,6 +11,3 @@ mod parted;
 pub use fault::{InputError, InputFault};
 pub use input::{Input, InputLine, InputLines, read_input};
 pub use limits::{LONGEST_LINE, MOST_INPUT, MOST_LINES};
-
-#[cfg(test)]
-mod tests;

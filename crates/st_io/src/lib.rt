@@ -15,6 +15,3 @@ pub use memory_source::{MemorySource, SureSource};
 pub use sink::{Sink, SinkError};
 pub use source::{Failed, Source};
 pub use whole::{ReadError, read_all, write_all};
-
-#[cfg(test)]
-mod tests;

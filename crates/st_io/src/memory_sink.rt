@@ -8,7 +8,7 @@ use st_fields::WordsError;
 use std::alloc::Global;
 
 /// Memory as a sink that never fails.
-#[derive(Debug, Drop)]
+#[derive(Drop)]
 pub struct SureSink {
     bytes: Vec<u8>,
     most: usize,
@@ -16,7 +16,7 @@ pub struct SureSink {
 }
 
 /// Memory as a sink of which chosen writes fail.
-#[derive(Debug, Drop)]
+#[derive(Drop)]
 pub struct MemorySink {
     sink: SureSink,
     plan: Plan,

@@ -8,7 +8,7 @@ use st_fields::{Bytes, Seq, WordsError};
 use std::alloc::Global;
 
 /// Bytes in memory as a source that never fails.
-#[derive(Debug, Drop)]
+#[derive(Drop)]
 pub struct SureSource {
     bytes: Bytes,
     at: usize,
@@ -16,7 +16,7 @@ pub struct SureSource {
 }
 
 /// Bytes in memory as a source of which chosen reads fail.
-#[derive(Debug, Drop)]
+#[derive(Drop)]
 pub struct MemorySource {
     source: SureSource,
     plan: Plan,

@@ -5,7 +5,7 @@ use st_fields::{Seq, WordsError};
 use std::alloc::Global;
 
 /// Which calls are to fail, and how many were made and failed.
-#[derive(Debug, Drop)]
+#[derive(Drop)]
 pub(crate) struct Plan {
     /// The calls to fail, from 0.
     places: Seq<u32>,

@@ -37,7 +37,7 @@ impl<D: Disk> Journal<D> {
 
     /// Starts a journal on a disk, and answers the bodies of its file. A file of at most 9 bytes becomes a
     /// new journal; what stands behind the closed gate of a longer one is cut off. NotJournal changes
-    /// nothing of the file. An error hands the disk back.
+    /// nothing of the file. Full is never answered. An error hands the disk back.
     pub fn start(
         alloc: Global,
         disk: D,
@@ -45,8 +45,9 @@ impl<D: Disk> Journal<D> {
     ) -> Result<(Journal<D>, Bodies), NotStarted<JournalError, D>>
         requires least { 9 ≤ limit }
         requires most { limit ≤ 2 ^ 32 }
+        ensures never_full { IfErr result (λ e. (bytes : ℕ) → e.error ≢ journals.Full bytes) }
 
-        // The bodies that the file stands for, or its first fault; never Full.
+        // The bodies that the file stands for, or its first fault.
         ensures answer { D.tells → Starts (answer_of result) (bodies_of (D.seen disk)) }
         ensures stands { IfOk result (λ x. D.tells → Stands D.seen D.may_leave x.0 x.1) }
         ensures limit { IfOk result (λ x. limit_of x.0 ≡ limit) }
@@ -81,6 +82,7 @@ impl<D: Disk> Journal<D> {
     /// started again, and the body is there or not. Four device calls, or fewer where one fails; none where
     /// it is Full. NotJournal is never answered.
     pub fn append(&mut self, alloc: Global, body: &[u8]) -> Result<(), JournalError>
+        ensures never_no_journal { (place : ℕ) → result ≢ Err (journals.NotJournal place) }
         ensures appended { OnOk result (D.tells → (bodies : List (List ℕ)) → Stands D.seen D.may_leave self.old bodies
             → Stands D.seen D.may_leave self.new (bodies ++ body.now ∷ [])) }
 
@@ -156,6 +158,7 @@ impl Journal<MemoryDisk> {
 
 /// Reads a file and makes it one at rest: its bodies, and the offset of the closed gate.
 fn begin<D: Disk>(alloc: Global, disk: &mut D) -> Result<(Bodies, u64), JournalError>
+    ensures never_full { (bytes : ℕ) → result ≢ Err (journals.Full bytes) }
     ensures found { IfOk result (λ x. D.tells → (bodies_of (D.seen disk.old) ≡ Ok x.0) × IsReady x.0 x.1 (D.seen disk.new) (D.may_leave disk.new)) }
     ensures fault { IfErr result (λ e. D.tells → IsStartFault (bodies_of (D.seen disk.old)) e) }
     ensures unchanged { (place : ℕ) → result ≡ Err (journals.NotJournal place) → D.tells → (D.seen disk.new ≡ D.seen disk.old) × Only (D.seen disk.new) (D.may_leave disk.new) }

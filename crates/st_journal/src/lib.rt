@@ -10,6 +10,3 @@ mod journal;
 pub use blocks::Bodies;
 pub use error::{JournalError, NotStarted};
 pub use journal::Journal;
-
-#[cfg(test)]
-mod tests;

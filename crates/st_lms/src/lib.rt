@@ -15,6 +15,3 @@ pub use kind::LmsKind;
 pub use laws::sealed_checks;
 pub use secret::LmsSecret;
 pub use tree::Tree;
-
-#[cfg(test)]
-mod tests;

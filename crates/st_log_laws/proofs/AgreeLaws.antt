@@ -16,7 +16,7 @@ use Rattle.st_protocol.specs.World.{Deployment, World, empty}
 use Rattle.st_protocol.specs.Schedule.{steps}
 use Rattle.st_ranges.specs.Ranges.{MessageInRange}
 use Rattle.st_ranges.specs.Deployments.{DeploymentInRange, LineInRange}
-use Rattle.st_origins.specs.Origins.{comes_from_client}
+use Rattle.st_log_laws.specs.Handed.{comes_from_client}
 use Rattle.st_honest_laws.specs.Honest.{SealsAreRead}
 use Rattle.st_answer_laws.specs.Plain.{sites_in, plain_of, Refines}
 use Rattle.st_refinement_laws.proofs.RunLaws.{leads-refl}

@@ -1,13 +1,15 @@
--- What a server reads: all that it names is known, and every seal in it checks.
+-- What a server reads is exact, and every seal in it checks.
 use Rattle.std.proofs.Common.{◌≡◌, ℕ, Bool, true, false, cond, List, [], ◌∷◌, subst, refl}
 use Rattle.std.specs.Prelude.{Option, Some, None, map}
 use Rattle.std.specs.List.{AllByRecursion as Each}
 use Rattle.st_message.specs.declared.message.Message.{Message}
-use Rattle.st_message.specs.declared.reason.Reason.TheVariants.{Unknown, BadSeal}
+use Rattle.st_message.specs.declared.reason.Reason.TheVariants.{BadSeal}
 use Rattle.st_protocol.specs.Keeping.{given}
 use Rattle.st_protocol.specs.Duty.{Reading, Faulty, Clean}
-use Rattle.st_protocol.specs.Known.{Sealed, knows, seals_of}
-use Rattle.st_protocol.specs.World.{SealIn, Deployment, first_bad, checks_in, bad_seal, with_known, with_seals, reads}
+use Rattle.st_protocol.specs.Known.{Sealed, seals_of}
+use Rattle.st_protocol.specs.World.{SealIn, Deployment, first_bad, checks_in, bad_seal, with_seals, read_known, reads}
+use Rattle.st_frame_laws.specs.Exact.{MessageIsExact}
+use Rattle.st_frame_laws.proofs.ExactLaws.{known_parts}
 use Rattle.st_honest_laws.specs.Honest.{without_place, SealsAreRead}
 
 module _ {Wire : Type 0} (d : Deployment Wire) where
@@ -15,10 +17,10 @@ module _ {Wire : Type 0} (d : Deployment Wire) where
   abbrev pub Holds : Sealed → Type 0
   Holds x = d.formats.holds x.who x.statement x.seal ≡ true
 
-  -- what is read with all tests was read, all that it names is of the deployment, and all its seals check
+  -- what is read with all tests was read, is exact, and all its seals check
   pub record IsChecked (wire : Wire) (m : Message) : Type 0 where
     pub read : d.formats.read wire ≡ Clean m
-    pub known : knows d.sites d.f d.clients m ≡ true
+    pub exact : MessageIsExact d m
     pub holds : Each Holds (seals_of d.sites m)
 
   -- of seals of which none is bad, each checks
@@ -33,22 +35,18 @@ module _ {Wire : Type 0} (d : Deployment Wire) where
 
   -- What a server reads.
   pub reads_checked : (In : Message → Type 0) (formats : SealsAreRead d In) (wire : Wire) (m : Message) → ((n : Message) → d.formats.read wire ≡ Clean n → In n) → reads d wire ≡ Clean m → IsChecked wire m
-  reads_checked In formats wire m inside e = by (d.formats.read wire) refl e
+  reads_checked In formats wire m inside e = by (read_known d wire) refl e
     where
       clean : (a b : Message) → Clean a ≡ Clean b → a ≡ b
       clean a b f = cc
 
-      sealed : (n : Message) → d.formats.read wire ≡ Clean n → d.formats.knows n ≡ true → (bad : Option ℕ) → bad_seal d n ≡ bad → given bad (Clean n) (λ place. Faulty (BadSeal place)) ≡ Clean m →
-          IsChecked wire m
-      sealed n r k None none f =
+      sealed : (n : Message) → read_known d wire ≡ Clean n → (bad : Option ℕ) → bad_seal d n ≡ bad → given bad (Clean n) (λ place. Faulty (BadSeal place)) ≡ Clean m → IsChecked wire m
+      sealed n k None none f =
+          let read : d.formats.read wire ≡ Clean n = (known_parts d wire n k).0 in
           subst (IsChecked wire) (clean n m f)
-          (record { read = r; known = formats.known wire n r k; holds = subst (Each Holds) (formats.seals wire n (inside n r) r) (good_seals (d.formats.seals_in n) none) })
-      sealed n r k (Some place) bad f = absurd (let no : Faulty (BadSeal place) ≡ Clean m = f in cc)
+          (record { read = read; exact = formats.exact wire n k; holds = subst (Each Holds) (formats.seals wire n (inside n read) read) (good_seals (d.formats.seals_in n) none) })
+      sealed n k (Some place) bad f = absurd (let no : Faulty (BadSeal place) ≡ Clean m = f in cc)
 
-      known : (n : Message) → d.formats.read wire ≡ Clean n → (b : Bool) → d.formats.knows n ≡ b → with_seals d (cond b (Clean n) (Faulty Unknown)) ≡ Clean m → IsChecked wire m
-      known n r true k f = sealed n r k (bad_seal d n) refl f
-      known n r false k f = absurd (let no : Faulty Unknown ≡ Clean m = f in cc)
-
-      by : (r : Reading) → d.formats.read wire ≡ r → with_seals d (with_known d r) ≡ Clean m → IsChecked wire m
-      by (Faulty reason) r f = absurd (let no : Faulty reason ≡ Clean m = f in cc)
-      by (Clean n) r f = known n r (d.formats.knows n) refl f
+      by : (r : Reading) → read_known d wire ≡ r → with_seals d r ≡ Clean m → IsChecked wire m
+      by (Faulty reason) k f = absurd (let no : Faulty reason ≡ Clean m = f in cc)
+      by (Clean n) k f = sealed n k (bad_seal d n) refl f

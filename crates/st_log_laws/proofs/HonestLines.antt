@@ -1,4 +1,4 @@
--- In a deployment in range, and at lines in range, all that a server is given is sound: it is known and in range, and each of
+-- In a deployment in range, and at lines in range, all that a server is given is sound: it is exact and in range, and each of
 -- its seals that names a correct party is over what this party has handed out by then.
 use Rattle.std.proofs.Common.{◌≡◌, ℕ, ◌≤◌, zero, suc, List, [], ◌∷◌, length, subst, refl, ap, arith}
 use Rattle.std.specs.Prelude.{Some, slice_get}
@@ -88,7 +88,7 @@ module _ {Wire : Type 0} (d : Deployment Wire) (h : DeploymentInRange d) (format
       let checked : IsChecked d wire m = reads_checked d MessageInRange formats wire m (λ n r. subst ReadingInRange r there.0) is in
       let all_there : Covers world.made world.made = (λ who s made. made) in
       record {
-        known = checked.known;
+        exact = checked.exact;
         honest = honest_seals world (seals_of d.sites m) (message_seals (IsHonest d world.made) d.sites m (there.1 all_there m checked.read)) checked.holds;
         ranged = subst ReadingInRange checked.read there.0;
       }

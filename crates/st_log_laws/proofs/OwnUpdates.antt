@@ -17,7 +17,7 @@ use Rattle.st_message.specs.declared.made.MadeSeal.{MadeSeal}
 use Rattle.st_schedule.specs.declared.line.Line.{Line}
 use Rattle.st_counts.specs.Counts.{Has}
 use Rattle.st_agreement.specs.Worlds.{IsOwn}
-use Rattle.st_origins.specs.Origins.{was_handed, comes_from_client}
+use Rattle.st_log_laws.specs.Handed.{was_handed, comes_from_client}
 use Rattle.st_protocol.specs.Words.{server_at, client_at, same_who, same_statement}
 use Rattle.st_protocol.specs.Keeping.{given}
 use Rattle.st_protocol.specs.World.{Deployment, World, Node, empty, has_handed, handed, with_node, with_customer, with_waiting, ends, hands, sends_to, notes_seal, hands_one, hands_out, settled, plan_at}

@@ -13,7 +13,7 @@ ghost use Rattle.st_protocol.specs.World.{Deployment, empty};
 ghost use Rattle.st_protocol.specs.Schedule.{steps};
 ghost use Rattle.st_ranges.specs.Ranges.{MessageInRange};
 ghost use Rattle.st_ranges.specs.Deployments.{DeploymentInRange, LineInRange};
-ghost use Rattle.st_origins.specs.Origins.{comes_from_client};
+ghost use Rattle.st_log_laws.specs.Handed.{comes_from_client};
 ghost use Rattle.st_honest_laws.specs.Honest.{SealsAreRead};
 ghost use Rattle.st_refinement_laws.specs.Lines.{AreHonestLines};
 ghost use Rattle.st_answer_laws.specs.Plain.{sites_in, plain_of};

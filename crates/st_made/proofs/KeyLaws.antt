@@ -1,15 +1,13 @@
 -- Two seals that can be kept have different keys, and what keeping a key leaves at every bytes.
-use Rattle.std.proofs.Common.{ℕ, ◌≡◌, Bool, true, false, cond, List, [], ◌∷◌, refl, sym, ap, subst, ◌∙◌, arith}
+use Rattle.std.proofs.Common.{ℕ, ◌≡◌, Bool, true, false, cond, Option, List, [], ◌∷◌, refl, sym, ap, subst, ◌∙◌, arith}
 use Rattle.std.specs.Int.{w64}
 use Rattle.std.specs.Str.{bytes_eq}
 use Rattle.std.specs.Ordering.{is_eq, nat_cmp, eq_by_cmp}
 use Rattle.std.specs.Cmp.{eq_by_cmp_equiv}
 use Rattle.std.specs.Cmp.Lexicographic.{slice_cmp, nat_list_cmp_total, nat_list_eq_equiv}
-use Rattle.std.specs.List.{list_any}
 use Rattle.std.specs.Prelude.{◌&&◌}
-use Rattle.std.specs.Map.{IsKeyTest, AreApart}
-use Rattle.std.specs.Set.{KeepsOthers}
-use Rattle.std.specs.BTreeSet.{BTreeSet, contains_by, UpdatesBy}
+use Rattle.std.specs.Map.{IsKeyTest, AreApart, KeepsOthers, lookup}
+use Rattle.std.specs.BTreeMap.{BTreeMap, get_by, UpdatesBy}
 use Rattle.std.proofs.lemmas.Bool.Decides.{Decides-and, Decides-like, same_from_decides}
 use Rattle.std.proofs.lemmas.Map.Text.{is_eq-slice_cmp}
 use Rattle.std.proofs.lemmas.Slice.Eq.{bytes_eq-Decides}
@@ -65,7 +63,7 @@ same_key w v s t ks fs kt ft =
     (Decides-like (bytes_eq (key_spelling w s) (key_spelling v t)) (one_key w v s t ks fs kt ft) (λ e i. key_spelling (e.0 i) (e.1 i)) (bytes_eq-Decides (key_spelling w s) (key_spelling v t)))
     (Decides-and (same_who w v) (same_statement s t) (same_who-Decides w v) (same_statement-Decides s t))
 
--- ---- a set of keys that are read as bytes
+-- ---- a map by keys that are read as bytes
 
 -- bytes that differ from these, and are those of a key, tell that key from them
 apart : (bs cs ks : List ℕ) → bytes_eq bs cs ≡ false → is_eq (slice_cmp nat_cmp bs ks) ≡ true → is_eq (slice_cmp nat_cmp cs ks) ≡ false
@@ -73,25 +71,25 @@ apart bs cs ks differ same =
     is_eq-slice_cmp cs ks ∙ (nat_list_eq_equiv.symm cs ks ∙ (sym (nat_list_eq_equiv.congr bs ks cs (sym (is_eq-slice_cmp bs ks) ∙ same)) ∙ differ))
 
 -- what a change at one key leaves at each other
-other_keys : {K : Type 0} (eq : K → K → Bool) (test : K → Bool) (old new : List K) → KeepsOthers eq test old new →
-    (other : K → Bool) → IsKeyTest eq other → AreApart test other → list_any other new ≡ list_any other old
+other_keys : {K X : Type 0} (eq : K → K → Bool) (test : K → Bool) (old new : List (K × X)) → KeepsOthers eq test old new →
+    (other : K → Bool) → IsKeyTest eq other → AreApart test other → lookup other new ≡ lookup other old
 unfolding KeepsOthers
 other_keys eq test old new kept = kept
 
-module _ {K : Type 0} (read : K → List ℕ) where
-  -- a key of these bytes is in the set
-  abbrev pub has_bytes : BTreeSet K → List ℕ → Bool
-  has_bytes set bs = contains_by (λ k. slice_cmp nat_cmp bs (read k)) set
+module _ {K X : Type 0} (read : K → List ℕ) where
+  -- what stands under a key of these bytes
+  abbrev pub at_bytes : BTreeMap K X → List ℕ → Option X
+  at_bytes m bs = get_by (λ k. slice_cmp nat_cmp bs (read k)) m
 
-  -- A set that is changed at the key of these bytes, at any bytes.
-  pub updated : (bs : List ℕ) (old new : BTreeSet K) (b : Bool) →
-      UpdatesBy (λ x y. slice_cmp nat_cmp (read x) (read y)) (λ k. slice_cmp nat_cmp bs (read k)) old new b →
-      (cs : List ℕ) → has_bytes new cs ≡ cond (bytes_eq bs cs) b (has_bytes old cs)
-  updated bs old new b updates cs = by (bytes_eq bs cs) refl
+  -- A map that is changed at the key of these bytes, at any bytes.
+  pub updated : (bs : List ℕ) (old new : BTreeMap K X) (w : Option X) →
+      UpdatesBy (λ x y. slice_cmp nat_cmp (read x) (read y)) (λ k. slice_cmp nat_cmp bs (read k)) old new w →
+      (cs : List ℕ) → at_bytes new cs ≡ cond (bytes_eq bs cs) w (at_bytes old cs)
+  updated bs old new w updates cs = by (bytes_eq bs cs) refl
     where
-      by : (same : Bool) → bytes_eq bs cs ≡ same → has_bytes new cs ≡ cond same b (has_bytes old cs)
-      by true is = subst (λ (ds : List ℕ). has_bytes new ds ≡ b) ((bytes_eq-Decides bs cs).0 is) updates.1
+      by : (same : Bool) → bytes_eq bs cs ≡ same → at_bytes new cs ≡ cond same w (at_bytes old cs)
+      by true is = subst (λ (ds : List ℕ). at_bytes new ds ≡ w) ((bytes_eq-Decides bs cs).0 is) updates.1
       by false is =
-          other_keys (eq_by_cmp (λ x y. slice_cmp nat_cmp (read x) (read y))) _ old.keys new.keys updates.3 _
+          other_keys (eq_by_cmp (λ x y. slice_cmp nat_cmp (read x) (read y))) _ old.entries new.entries updates.3 _
           (λ x y. (eq_by_cmp_equiv nat_list_cmp_total).congr cs (read x) (read y))
           (λ k. apart bs cs (read k) is)

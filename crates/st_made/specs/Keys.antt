@@ -1,16 +1,16 @@
--- The bytes under which a seal is kept, and the list that kept keys stand for.
-use Rattle.std.specs.Prelude.{◌≡◌, ℕ, Bool, cond, List, [], ◌∷◌, ◌++◌}
+-- The list of the seals that were handed out, and the bytes under which a party's first seal over a statement is found.
+use Rattle.std.specs.Prelude.{◌≡◌, ℕ, cond, ◌&&◌, Option, Some, None, List, [], ◌∷◌, ◌++◌}
 use Rattle.std.specs.Ordering.{nat_cmp}
 use Rattle.std.specs.Cmp.Lexicographic.{slice_cmp}
-use Rattle.std.specs.BTreeSet.{contains_by}
+use Rattle.std.specs.BTreeMap.{BTreeMap, get_by}
 use Rattle.st_words.specs.declared.ids.Who.{Who}
 use Rattle.st_words.specs.declared.ids.Who.TheVariants as parties
 use Rattle.st_words.specs.declared.statement.Statement.{Statement}
 use Rattle.st_words.specs.Ranges.{KeepsStatement, FitsStatement}
 use Rattle.st_words.specs.Spelling.{core_spelling}
 use Rattle.st_message.specs.declared.made.MadeSeal.{MadeSeal}
-use Rattle.st_protocol.specs.World.{has_made, has_handed}
-use Rattle.st_made.specs.declared.made.Made.{Made}
+use Rattle.st_protocol.specs.Words.{same_who, same_statement}
+use Rattle.st_protocol.specs.World.{has_handed}
 
 -- a party's bytes: its kind stands first, so that no client is taken for a server
 abbrev pub party_spelling : Who → List ℕ
@@ -21,15 +21,24 @@ party_spelling (parties.Client client) = 1 ∷ client.0 ∷ 0 ∷ []
 unfoldable pub key_spelling : Who → Statement → List ℕ
 key_spelling who s = party_spelling who ++ core_spelling s
 
--- a key of these bytes is kept
-abbrev pub has_key : Made → List ℕ → Bool
-has_key made bytes = contains_by (λ k. slice_cmp nat_cmp bytes k.items) made.keys
+-- a seal of a party's over a statement
+abbrev pub seal_of : Who → ℕ → Statement → MadeSeal
+seal_of who leaf s = record { who = who; leaf = leaf; statement = s }
 
--- The kept keys are those of the list's seals: for each party and each statement that can be sealed, a key is kept
--- exactly where the list has a seal.
-unfoldable pub IsMade : Made → List MadeSeal → Type 0
-IsMade made list = (who : Who) (s : Statement) → KeepsStatement s → FitsStatement s → has_key made (key_spelling who s) ≡ has_made list who s
+-- the leaf of the party's first seal over the statement, if it handed one out
+unfoldable pub first_leaf : List MadeSeal → Who → Statement → Option ℕ
+first_leaf [] who s = None
+first_leaf (x ∷ xs) who s = cond (same_who x.who who && same_statement x.statement s) (Some x.leaf) (first_leaf xs who s)
 
 -- the list once the seal is handed out: it is noted where it wasn't before
 abbrev pub with_seal : List MadeSeal → Who → ℕ → Statement → List MadeSeal
-with_seal list who leaf s = cond (has_handed list who leaf s) list (list ++ record { who = who; leaf = leaf; statement = s } ∷ [])
+with_seal list who leaf s = cond (has_handed list who leaf s) list (list ++ seal_of who leaf s ∷ [])
+
+module _ {K : Type 0} (read : K → List ℕ) where
+  -- what is kept under a key of these bytes, if anything is
+  abbrev pub leaf_at : BTreeMap K ℕ → List ℕ → Option ℕ
+  leaf_at leaves bytes = get_by (λ k. slice_cmp nat_cmp bytes (read k)) leaves
+
+  -- For each party and each statement that can be sealed, the leaf of the list's first seal is kept.
+  abbrev pub KeepsFirst : BTreeMap K ℕ → List MadeSeal → Type 0
+  KeepsFirst leaves list = (who : Who) (s : Statement) → KeepsStatement s → FitsStatement s → leaf_at leaves (key_spelling who s) ≡ first_leaf list who s

@@ -3,8 +3,6 @@
 
 mod key;
 mod made;
-#[cfg(test)]
-mod tests;
 mod widths;
 
 pub use made::Made;

@@ -5,7 +5,7 @@ use st_words::{LocalView, Number, Statement, View};
 use std::alloc::Global;
 
 /// One change of a server's durable state.
-#[derive(Debug, Drop)]
+#[derive(Drop)]
 pub enum Change {
     /// It entered the local view, which this quorum of its site asked for.
     EnterLocal {
@@ -48,7 +48,7 @@ pub enum Change {
 pub type Changes = Seq<Change>;
 
 /// What a server keeps of what it heard, until it restarts.
-#[derive(Debug, Drop)]
+#[derive(Drop)]
 pub struct Heard {
     /// Whether the server itself sent it: a report that it made or a certificate that it completed.
     pub own: bool,

@@ -15,7 +15,7 @@ pub enum Scope {
 }
 
 /// What happens to a server.
-#[derive(Debug, Drop)]
+#[derive(Drop)]
 pub enum Event {
     /// These bytes reach it.
     Deliver(Bytes),
@@ -25,14 +25,14 @@ pub enum Event {
 }
 
 /// Whether an event did something.
-#[derive(Clone, Copy, Debug, PartialEq, Eq)]
+#[derive(Clone, Copy, PartialEq, Eq)]
 pub enum Outcome {
     Did,
     Ignored(Reason),
 }
 
 /// A message that a server hands out.
-#[derive(Debug, Drop)]
+#[derive(Drop)]
 pub struct Output {
     pub message: Message,
     pub to: Scope,
@@ -45,7 +45,7 @@ pub type Outputs = Seq<Output>;
 
 /// What a server is to do at an event: record the changes, then keep what was heard, then hand out the
 /// outputs. An ignored event has none of these.
-#[derive(Debug, Drop)]
+#[derive(Drop)]
 pub struct Plan {
     pub changes: Changes,
     pub heard: HeardList,

@@ -5,14 +5,14 @@ use st_words::{Items, Statement, Update, Value};
 use std::alloc::Global;
 
 /// A statement that a server made, with the leaf that seals it.
-#[derive(Debug, Drop)]
+#[derive(Drop)]
 pub struct Sealing {
     pub leaf: u32,
     pub statement: Statement,
 }
 
 /// A value that stood in a view and local view, and the quorum that says so.
-#[derive(Debug, Drop)]
+#[derive(Drop)]
 pub struct Backed {
     pub view: u32,
     pub local: u32,
@@ -21,28 +21,28 @@ pub struct Backed {
 }
 
 /// A server's kept share of a slot; the slot's table has the server's index.
-#[derive(Debug, Drop)]
+#[derive(Drop)]
 pub struct Share {
     pub statement: Statement,
     pub seal: Bytes,
 }
 
 /// A share that asks for a view.
-#[derive(Debug, Drop)]
+#[derive(Drop)]
 pub struct Vote {
     pub view: u32,
     pub seal: Bytes,
 }
 
 /// A site's certificate that asks for a view.
-#[derive(Debug, Drop)]
+#[derive(Drop)]
 pub struct Asked {
     pub view: u32,
     pub quorum: Quorum,
 }
 
 /// A union that is held.
-#[derive(Debug, Drop)]
+#[derive(Drop)]
 pub struct Held {
     /// Of a local union: the greatest view of its reports.
     pub greatest: u32,
@@ -52,7 +52,7 @@ pub struct Held {
 }
 
 /// An Accept certificate that is kept; its table has the number and the site.
-#[derive(Debug, Drop)]
+#[derive(Drop)]
 pub struct Word {
     pub view: u32,
     pub value: Value,
@@ -60,21 +60,21 @@ pub struct Word {
 }
 
 /// A client's update that waits for a number, with its seal.
-#[derive(Debug, Drop)]
+#[derive(Drop)]
 pub struct Pended {
     pub update: Update,
     pub seal: Bytes,
 }
 
 /// A certificate that this server completed.
-#[derive(Debug, Drop)]
+#[derive(Drop)]
 pub struct Completed {
     pub statement: Statement,
     pub quorum: Quorum,
 }
 
 /// What proves the present views: the local view's quorum, and the view's sites.
-#[derive(Debug, Drop)]
+#[derive(Drop)]
 pub struct KeptViews {
     pub local: Option<Quorum>,
     pub view: Option<SiteWords>,

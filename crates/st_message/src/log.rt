@@ -3,7 +3,7 @@ use st_words::Value;
 use std::alloc::Global;
 
 /// What running a number's value gave.
-#[derive(Debug, Drop)]
+#[derive(Drop)]
 pub enum Ran {
     /// The service answered the update with this result.
     Ran { result: Bytes },
@@ -14,7 +14,7 @@ pub enum Ran {
 }
 
 /// One number of an executed log: its value, and what running it gave.
-#[derive(Debug, Drop)]
+#[derive(Drop)]
 pub struct Entry {
     pub value: Value,
     pub ran: Ran,
@@ -58,43 +58,5 @@ impl Copied for Entry {
 impl Same for Entry {
     fn same(&self, other: &Entry) -> bool {
         self.value.same(&other.value) && self.ran.same(&other.ran)
-    }
-}
-
-#[cfg(test)]
-mod tests {
-    use super::*;
-    use st_words::{ClientId, Update};
-    use std::test::*;
-
-    fn executed(alloc: Global, ran: Ran) -> Result<Entry, WordsError> {
-        let op = Seq::from_slice(alloc, b"hi")?;
-        Ok(Entry {
-            value: Value::Update(Update {
-                client: ClientId(1),
-                time: 3,
-                op,
-            }),
-            ran,
-        })
-    }
-
-    #[test]
-    fn a_copy_is_the_same_entry(rt: HostRuntime) -> Result<(), Fail> {
-        let alloc = rt.alloc();
-        let result = Seq::from_slice(alloc, b"\x00\x00\x00\x01")?;
-        let ran = executed(alloc, Ran::Ran { result })?;
-        let skipped = executed(alloc, Ran::Skipped { last: 3 })?;
-        let nothing = Entry {
-            value: Value::Noop,
-            ran: Ran::Nothing,
-        };
-        for entry in [&ran, &skipped, &nothing] {
-            assert!(rt; entry.copy(alloc)?.same(entry));
-        }
-        assert!(rt; !ran.same(&skipped));
-        assert!(rt; !skipped.same(&executed(alloc, Ran::Skipped { last: 2 })?));
-        assert!(rt; !nothing.same(&ran));
-        Ok(())
     }
 }

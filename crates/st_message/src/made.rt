@@ -3,7 +3,7 @@ use st_words::{Statement, Who};
 use std::alloc::Global;
 
 /// That a correct party handed out its seal over the statement, with this leaf.
-#[derive(Debug, Drop)]
+#[derive(Drop)]
 pub struct MadeSeal {
     pub who: Who,
     pub leaf: u32,
@@ -20,31 +20,5 @@ impl Copied for MadeSeal {
             leaf: self.leaf,
             statement: self.statement.copy(alloc)?,
         })
-    }
-}
-
-#[cfg(test)]
-mod tests {
-    use super::*;
-    use st_fields::Same;
-    use st_words::{ServerId, SiteId, View};
-    use std::test::*;
-
-    #[test]
-    fn a_copy_is_the_same_seal(rt: HostRuntime) -> Result<(), Fail> {
-        let alloc = rt.alloc();
-        let made = MadeSeal {
-            who: Who::Server(ServerId { site: 2, index: 1 }),
-            leaf: 9,
-            statement: Statement::GlobalVc {
-                site: SiteId(2),
-                view: View(4),
-            },
-        };
-        let copy = made.copy(alloc)?;
-        assert!(rt; copy.who == made.who);
-        assert_eq!(rt; copy.leaf, 9);
-        assert!(rt; copy.statement.same(&made.statement));
-        Ok(())
     }
 }

@@ -4,7 +4,7 @@ use st_words::{LocalView, Number, ServerId, SiteId, Statement, Update, Value, Vi
 use std::alloc::Global;
 
 /// One site's word: its certificate for a statement that the context names.
-#[derive(Debug, Drop)]
+#[derive(Drop)]
 pub struct SiteWord {
     pub site: SiteId,
     pub quorum: Quorum,
@@ -14,7 +14,7 @@ pub struct SiteWord {
 pub type SiteWords = Seq<SiteWord>;
 
 /// That a majority of sites accepted the value in the view, for a number that the context names.
-#[derive(Debug, Drop)]
+#[derive(Drop)]
 pub struct Proof {
     pub view: View,
     pub value: Value,
@@ -26,7 +26,7 @@ pub type Proofs = Seq<Proof>;
 
 /// A server's report on entering a view, with what backs it: a certificate for each item, and the
 /// order proof of its base.
-#[derive(Debug, Drop)]
+#[derive(Drop)]
 pub struct ReportBody {
     pub statement: Statement,
     pub seal: Bytes,
@@ -38,7 +38,7 @@ pub struct ReportBody {
 pub type Reports = Seq<ReportBody>;
 
 /// Why a view is entered: a quorum of one site for a local view, or a majority of sites for a view.
-#[derive(Debug, Drop)]
+#[derive(Drop)]
 pub enum ViewWords {
     Local {
         statement: Statement,
@@ -51,7 +51,7 @@ pub enum ViewWords {
 }
 
 /// A message.
-#[derive(Debug, Drop)]
+#[derive(Drop)]
 pub enum Message {
     /// A client's update, with its seal.
     Update {

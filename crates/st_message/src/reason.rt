@@ -6,7 +6,7 @@ use std::fmt;
 
 /// Why a server ignores an event, with the values that show it. The first that holds, in this order,
 /// is the answer.
-#[derive(Clone, Copy, Debug, PartialEq, Eq)]
+#[derive(Clone, Copy, PartialEq, Eq)]
 pub enum Reason {
     /// The message has this many bytes, and more than it may.
     TooLong { bytes: usize },

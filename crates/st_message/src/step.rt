@@ -5,12 +5,13 @@ use crate::change::{Changes, HeardList};
 use crate::event::Scope;
 use crate::message::{Message, Proof};
 use crate::reason::Reason;
-use st_fields::{Bytes, Seq, WordsError};
+use st_fields::{Bytes, Copied, Seq, WordsError};
 use st_seal::Quorums;
 use st_words::Statement;
+use std::alloc::Global;
 
 /// In which message a statement goes out.
-#[derive(Debug, Drop)]
+#[derive(Drop)]
 pub enum Form {
     Share,
     /// With the client's seal, or no bytes.
@@ -27,7 +28,7 @@ pub enum Form {
 
 /// What goes out: a statement that is sealed with its own leaf, or a message without a seal of this
 /// server's own.
-#[derive(Debug, Drop)]
+#[derive(Drop)]
 pub enum Out {
     Make {
         statement: Statement,
@@ -45,15 +46,51 @@ pub type Outs = Seq<Out>;
 
 /// What one part of a server does at an event: it records the changes, then keeps what was heard, then
 /// this goes out.
-#[derive(Debug, Drop)]
+#[derive(Drop)]
 pub struct Step {
     pub changes: Changes,
     pub heard: HeardList,
     pub out: Outs,
 }
 
+impl Copied for Form {
+    fn copy(&self, alloc: Global) -> Result<Form, WordsError> {
+        match self {
+            Form::Share => Ok(Form::Share),
+            Form::Assign { client_seal } => Ok(Form::Assign {
+                client_seal: client_seal.copy(alloc)?,
+            }),
+            Form::Report { quorums, base } => Ok(Form::Report {
+                quorums: quorums.copy(alloc)?,
+                base: base.copy(alloc)?,
+            }),
+            Form::Reply => Ok(Form::Reply),
+        }
+    }
+}
+
+impl Copied for Out {
+    fn copy(&self, alloc: Global) -> Result<Out, WordsError> {
+        match self {
+            Out::Make {
+                statement,
+                form,
+                to,
+            } => Ok(Out::Make {
+                statement: statement.copy(alloc)?,
+                form: form.copy(alloc)?,
+                to: *to,
+            }),
+            Out::Send { message, to } => Ok(Out::Send {
+                message: message.copy(alloc)?,
+                to: *to,
+            }),
+        }
+    }
+}
+
 /// Why a part does nothing.
-#[derive(Clone, Copy, Debug, PartialEq, Eq)]
+#[derive(Clone, Copy, PartialEq, Eq)]
 pub enum Refused {
     /// The event is ignored for this reason.
     Ignored(Reason),

@@ -6,8 +6,6 @@ mod accept;
 mod accept_share;
 mod in_hand;
 mod proposal;
-#[cfg(test)]
-mod tests;
 mod words;
 
 pub use accept::on_accept;

@@ -1,12 +1,14 @@
 -- Deployments over bytes are such as the laws of worlds are about.
-use Rattle.std.proofs.Common.{arith, ◌≡◌, ap, sym, subst, ℕ, ◌+◌, ◌*◌, ◌^◌, ◌<◌, Bool, true, List}
-use Rattle.std.specs.List.{All, AllByRecursion as Each}
+use Rattle.std.proofs.Common.{◌≡◌, ap, sym, subst, ℕ, ◌^◌, ◌<◌, Bool, true, List}
+use Rattle.std.specs.List.{All}
 use Rattle.std.proofs.lemmas.List.Elements.{All-weaker, recursion_from_All}
 use Rattle.st_words.specs.declared.deployment.Deployment.{Deployment}
 use Rattle.st_words.specs.declared.ids.Who.{Who}
 use Rattle.st_words.specs.declared.statement.Statement.{Statement}
 use Rattle.st_words.specs.Ranges.{KeepsStatement}
 use Rattle.st_words.specs.Spelling.{statement_spelling}
+use Rattle.st_fields.proofs.Fields.{IsBytes}
+use Rattle.st_message.specs.declared.message.Message.{Message}
 use Rattle.st_schedule.specs.declared.line.Line.{Line}
 use Rattle.st_seal.specs.Scheme.{scheme_of, is_party}
 use Rattle.st_hss_seal.specs.Keys.{is_choice}
@@ -14,23 +16,27 @@ use Rattle.st_hss_seal.specs.Sealing.{capacity_of, seal_of}
 use Rattle.st_hss_seal.specs.SealingLaws.{pens_are_sound}
 use Rattle.st_hss_seal.proofs.EmptyLaws.{no_empty_seal}
 use Rattle.st_protocol.specs.Words.{Bytes}
+use Rattle.st_protocol.specs.Duty.{Clean}
+use Rattle.st_protocol.specs.World.{reads}
 use Rattle.st_sealing.proofs.RangesLaws.{sealed_as_spelled}
-use Rattle.st_reading.specs.Deployed.{wire_formats}
+use Rattle.st_reading.specs.Deployed.{wire_formats, wire_deployment}
 use Rattle.st_reading.proofs.SameSealsLaws.{same_seals}
 use Rattle.st_live.specs.Service.{list_serve}
 use Rattle.st_ranges.specs.Ranges.{PenKeeps, ServeKeeps, MessageInRange}
-use Rattle.st_ranges.specs.Deployments.{DeploymentInRange, LineInRange}
 use Rattle.st_server.specs.Deployed.{runs_no_code}
 use Rattle.st_config.specs.Taken.{IsTaken}
 use Rattle.st_config.specs.Built.{IsBuilt}
 use Rattle.st_deployment.specs.Deployed.{of_file, statement_seal, world_deployment}
 use Rattle.st_deployment.specs.Deployable.{IsDeployable, IsLine}
 use Rattle.st_deployment.proofs.SealLengths.{seals_keep}
-use Rattle.st_deployment.proofs.SetLaws.{pens_keep}
-use Rattle.st_deployment.proofs.FormatLaws.{sent_same, lines_in_range}
+use Rattle.st_deployment.proofs.SetLaws.{list_serve_keeps, pens_keep}
+use Rattle.st_deployment.proofs.FormatLaws.{sent_same, reading_in_range, lines_in_range}
 use Rattle.st_deployment.proofs.RangeLaws.{few_faulty, file_in_range, taken_deployable}
+use Rattle.st_frame_laws.proofs.ExactLaws.{read_exact}
 use Rattle.st_honest_laws.specs.Honest.{SealsAreRead}
 use Rattle.st_answer_laws.specs.Fair.{HasFewFaulty}
+use Rattle.st_certificate_laws.specs.Certified.{message_is_certified}
+use Rattle.st_certificate_laws.proofs.ReadLaws.{read_certified}
 use Rattle.st_promises.specs.Promises.{AlwaysKeepsPromises}
 use Rattle.st_promises.proofs.KeepLaws.{always_keeps}
 
@@ -41,9 +47,16 @@ seals_are_read d serve faulty seal small =
     record {
       sent = λ m n inside e. sent_same d m n small inside e;
       seals = λ wire m inside e. same_seals d.id d.sites m inside.0;
-      known = λ wire m e known. known;
+      exact = read_exact (of_file d serve faulty seal) (λ m known. known);
       none = λ who s. no_empty_seal d who (statement_spelling d.id s);
     }
+
+-- What a server reads of bytes, its seals looked at, is certified.
+pub bytes_certified : (d : Deployment) (serve : List Bytes → Bytes → Bytes) (faulty : ℕ → ℕ → Bool) (bytes : List ℕ) (m : Message) → d.id < 2 ^ 64 → IsBytes bytes →
+    reads (wire_deployment d serve faulty) bytes ≡ Clean m → message_is_certified (wire_formats d).holds d.f d.sites m ≡ true
+unfolding wire_deployment
+bytes_certified d serve faulty bytes m small fits e =
+    read_certified (of_file d serve faulty (wire_formats d).seal) (seals_are_read d serve faulty (wire_formats d).seal small) bytes m (reading_in_range d bytes fits) e
 
 -- Few servers of a file's deployment are faulty.
 pub file_few : (d : Deployment) → IsDeployable d → (serve : List Bytes → Bytes → Bytes) (seal : Who → ℕ → Statement → Bytes) → HasFewFaulty (of_file d serve (runs_no_code d) seal)
@@ -69,11 +82,6 @@ world_checks d who leaf s choice party below keeps =
 pub own_seals_keep : (d : Deployment) (who : Who) → is_choice d.seals ≡ true → PenKeeps ((wire_formats d).seal who)
 own_seals_keep d who choice leaf s inside = seals_keep d.seals (scheme_of d) who leaf (statement_spelling d.id s) choice
 
--- A result of the list service has four bytes.
-list_keeps : ServeKeeps list_serve
-unfolding list_serve
-list_keeps ran op short = omega arith
-
 module _ (d : Deployment) (deployable : IsDeployable d) where
   -- Whatever service servers run and whatever parties seal.
   pub file_keeps : (serve : List Bytes → Bytes → Bytes) (seal : Who → ℕ → Statement → Bytes) (all : List Line) → ServeKeeps serve → ((who : Who) → PenKeeps (seal who)) → All IsLine all →
@@ -85,7 +93,7 @@ module _ (d : Deployment) (deployable : IsDeployable d) where
   -- The deployment that a world runs today.
   pub world_keeps : (all : List Line) → All IsLine all → AlwaysKeepsPromises (world_deployment d) all
   unfolding world_deployment
-  world_keeps all l = file_keeps list_serve (statement_seal d) all list_keeps (λ who. pens_keep d who deployable.seals) l
+  world_keeps all l = file_keeps list_serve (statement_seal d) all list_serve_keeps (λ who. pens_keep d who deployable.seals) l
 
 -- What is taken today.
 pub taken_keeps : (d : Deployment) (all : List Line) → IsTaken d → All IsBuilt all → AlwaysKeepsPromises (world_deployment d) all

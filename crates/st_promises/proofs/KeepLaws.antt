@@ -1,7 +1,7 @@
 -- The worlds of deployments in range keep their promises.
-use Rattle.std.proofs.Common.{◌≡◌, ◌∙◌, ap, sym, subst, ℕ, ◌+◌, List, [], ◌∷◌, ◌++◌, refl, arith, IsTrue}
+use Rattle.std.proofs.Common.{◌≡◌, ◌∙◌, ap, sym, subst, ℕ, ◌+◌, List, ◌++◌, arith, IsTrue}
 use Rattle.std.specs.Prelude.{take, drop, ◌≤◌}
-use Rattle.std.specs.List.{All, AllByRecursion as Each}
+use Rattle.std.specs.List.{AllByRecursion as Each}
 use Rattle.std.proofs.lemmas.List.{take-append-drop, take-take, drop-take}
 use Rattle.std.proofs.lemmas.List.Elements.{All-take, All-from_recursion, recursion_from_All}
 use Rattle.st_message.specs.declared.log.Entry.{Entry}
@@ -11,7 +11,7 @@ use Rattle.st_protocol.specs.World.{Deployment, World, empty}
 use Rattle.st_protocol.specs.Schedule.{steps}
 use Rattle.st_ranges.specs.Ranges.{MessageInRange}
 use Rattle.st_ranges.specs.Deployments.{DeploymentInRange, LineInRange}
-use Rattle.st_origins.specs.Origins.{comes_from_client}
+use Rattle.st_log_laws.specs.Handed.{comes_from_client}
 use Rattle.st_in_hand.proofs.ServerLaws.{servers_up_to_date, next_event_executes}
 use Rattle.st_agreement.specs.Worlds.{inside, outside}
 use Rattle.st_frame_laws.proofs.ChoiceLaws.{append_all, append_parts}

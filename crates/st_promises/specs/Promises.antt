@@ -11,7 +11,7 @@ use Rattle.st_protocol.specs.Duty.{Event}
 use Rattle.st_protocol.specs.World.{Answered, Deployment, World, is_correct, empty, plan_at}
 use Rattle.st_protocol.specs.Schedule.{flows, steps}
 use Rattle.st_protocol.specs.Report.{answers_at}
-use Rattle.st_origins.specs.Origins.{comes_from_client}
+use Rattle.st_log_laws.specs.Handed.{comes_from_client}
 use Rattle.st_in_hand.specs.InHand.{in_hand_at, ExecutesInHand, answers_hearing}
 use Rattle.st_flat_laws.specs.Flat.{LeadsFlat}
 use Rattle.st_answer_laws.specs.Plain.{sites_in, plain_of}

@@ -1,21 +1,24 @@
 //! What is promised of worlds: each law is the contract of a function that has nothing to do.
 #![tactic(auto)]
 
-ghost use Rattle.std.specs.Prelude.{◌≡◌, ℕ, ◌^◌, ◌<◌, ◌≤◌, Bool, true, List};
+ghost use Rattle.std.specs.Prelude.{◌≡◌, ℕ, ◌^◌, ◌<◌, ◌≤◌, Bool, true, List, slice_index};
 ghost use Rattle.std.specs.List.{All, AllByRecursion as Each};
 ghost use Rattle.st_words.specs.declared.deployment.Deployment.{Deployment};
 ghost use Rattle.st_words.specs.declared.ids.Who.{Who};
 ghost use Rattle.st_words.specs.declared.value.Value.{Value};
 ghost use Rattle.st_words.specs.declared.statement.Statement.{Statement};
 ghost use Rattle.st_words.specs.Ranges.{KeepsStatement};
+ghost use Rattle.st_words.specs.Spelling.{statement_spelling};
+ghost use Rattle.st_message.specs.declared.message.Message.{Message};
 ghost use Rattle.st_seal.specs.Scheme.{scheme_of, is_party};
 ghost use Rattle.st_schedule.specs.declared.line.Line.{Line};
 ghost use Rattle.st_hss_seal.specs.Keys.{is_choice};
-ghost use Rattle.st_hss_seal.specs.Sealing.{capacity_of};
+ghost use Rattle.st_hss_seal.specs.Sealing.{capacity_of, holds};
 ghost use Rattle.st_protocol.specs.Words.{Bytes};
 ghost use Rattle.st_protocol.specs.Questions.{run_on, no_run};
+ghost use Rattle.st_protocol.specs.Duty.{Clean};
 ghost use Rattle.st_protocol.specs.World as model;
-ghost use Rattle.st_reading.specs.Deployed.{wire_formats};
+ghost use Rattle.st_reading.specs.Deployed.{wire_formats, wire_deployment};
 ghost use Rattle.st_ranges.specs.Ranges.{MessageInRange, PenKeeps, ServeKeeps};
 ghost use Rattle.st_ranges.specs.Deployments.{DeploymentInRange, LineInRange};
 ghost use Rattle.st_config.specs.Taken.{IsTaken};
@@ -25,6 +28,7 @@ ghost use Rattle.st_deployment.specs.Deployed.{of_file, world_deployment};
 ghost use Rattle.st_deployment.specs.Deployable.{IsDeployable, IsLine};
 ghost use Rattle.st_honest_laws.specs.Honest.{SealsAreRead};
 ghost use Rattle.st_answer_laws.specs.Fair.{HasFewFaulty};
+ghost use Rattle.st_certificate_laws.specs.Certified.{message_is_certified};
 ghost use Rattle.st_promises.specs.Logs.{times_ran};
 ghost use Rattle.st_promises.specs.Promises.{AlwaysKeepsPromises};
 
@@ -46,10 +50,19 @@ pub fn worlds_keep_promises<Wire>()
 {}
 
 /// Bytes are read as the laws of worlds want it, whatever parties seal: a message in range is read as it was sent, the
-/// seals that stand in it are those that it holds, what is known is known, and no empty seal checks.
+/// seals that stand in it are those that it holds, what is read names only what the deployment has, in exactly its counts,
+/// and no empty seal checks.
 pub fn wire_seals_are_read()
     ensures { (d : Deployment) (serve : List Bytes → Bytes → Bytes) (faulty : ℕ → ℕ → Bool) (seal : Who → ℕ → Statement → Bytes) → d.id < 2 ^ 64 →
         SealsAreRead (of_file d serve faulty seal) MessageInRange }
+{}
+
+/// What a server reads of any bytes, its seals looked at (`read_checked`), holds a certificate at each place of one, of
+/// exactly 2f+1 distinct servers of its site whose seals check over the bytes of its statement, and at each place of a
+/// proof of an order or of a view one of exactly a majority of distinct sites, each with its certificate.
+pub fn read_bytes_hold_certificates()
+    ensures { (d : Deployment) (serve : List Bytes → Bytes → Bytes) (faulty : ℕ → ℕ → Bool) (bytes : List ℕ) (m : Message) → d.id < 2 ^ 64 → ((i : ℕ) → slice_index bytes i < 256) →
+        model.reads (wire_deployment d serve faulty) bytes ≡ Clean m → message_is_certified (λ who s seal. holds d who (statement_spelling d.id s) seal) d.f d.sites m ≡ true }
 {}
 
 /// What a party seals over a statement's bytes, with a leaf that it has, checks (`checks`), and keeps its range (`keeps`).
@@ -86,6 +99,7 @@ mod tests {
         worlds_keep_promises::<Message>();
         worlds_keep_promises::<Bytes>();
         wire_seals_are_read();
+        read_bytes_hold_certificates();
         made_seals_check();
         deployed_worlds_keep_promises();
         assert!(rt; true);

@@ -56,22 +56,3 @@ pub fn messages_passed_read_as_sent()
         d.formats ≡ record (passed seal) { knows = knows } → KeepsRanges d → DeploymentInRange d }
     ensures one { DeploymentInRange one_server }
 {}
-
-#[cfg(test)]
-mod tests {
-    use super::*;
-    use st_fields::Bytes;
-    use st_message::Message;
-    use std::test::*;
-
-    #[test]
-    fn laws_ask_nothing(rt: HostRuntime) {
-        duties_keep_ranges::<Message>();
-        duties_keep_ranges::<Bytes>();
-        parts_keep_ranges();
-        worlds_send_in_range::<Message>();
-        worlds_send_in_range::<Bytes>();
-        messages_passed_read_as_sent();
-        assert!(rt; true);
-    }
-}

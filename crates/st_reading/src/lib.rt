@@ -10,6 +10,3 @@ pub use known::knows;
 pub use laws::{read_messages_are_spelled, seals_that_stand_are_held, sent_messages_are_read};
 pub use read::{read_checked, read_known};
 pub use seals::first_bad_seal;
-
-#[cfg(test)]
-mod tests;

@@ -1,7 +1,7 @@
 -- A course on its way is a context; messages of the normal case and the tick are carried out.
-use Rattle.std.proofs.Common.{◌≡◌, ℕ, ◌+◌, ◌<◌, Bool, true, false, cond, zero, suc, nat_eq, List, [], ◌∷◌, ◌++◌, refl, sym, ◌∙◌, ap, subst, inl, arith}
+use Rattle.std.proofs.Common.{◌≡◌, ℕ, ◌+◌, ◌<◌, Bool, true, false, cond, zero, suc, nat_eq, List, [], ◌∷◌, ◌++◌, refl, sym, ◌∙◌, subst, inl, arith}
 use Rattle.std.specs.Prelude.{◌&&◌, ◌%◌, Option, Some, None, is_some, is_none}
-use Rattle.std.proofs.lemmas.Bool.{eqb-true, eq-eqb, lt-ltb}
+use Rattle.std.proofs.lemmas.Bool.{eqb-true}
 use Rattle.st_words.specs.declared.deployment.TheConstants.{WINDOW}
 use Rattle.st_words.specs.declared.ids.LocalView.{LocalView}
 use Rattle.st_words.specs.declared.ids.Number.{Number}
@@ -41,7 +41,7 @@ use Rattle.st_protocol.specs.Duty.{Pen, Course, begins, carries, carries_changes
 use Rattle.st_words.specs.declared.value.Update.{Update}
 use Rattle.st_words.specs.declared.value.Value.{Value}
 use Rattle.st_message.specs.declared.event.Scope.TheVariants as scopes
-use Rattle.st_protocol.specs.Known.{Sealed, knows, knows_statement, seals_of, in_quorum, in_client_seal}
+use Rattle.st_protocol.specs.Known.{Sealed, seals_of, in_quorum, in_client_seal}
 use Rattle.st_protocol.specs.World.{Deployment, World, seat_of}
 use Rattle.st_protocol.proofs.QuestionLaws.{one_heard}
 use Rattle.st_ranges.specs.Deployments.{KeepsRanges}
@@ -231,11 +231,11 @@ module _ {Wire : Type 0} (d : Deployment Wire) (world : World Wire) (few : HasFe
   -- an assignment's share is as sound as the assignment
   assigned-sound : (view local n : ℕ) (v : Value) (seal : Bytes) (signed : Signed) → view % d.sites ≡ s → IsSound d world (messages.Assign (record { 0 = view }) (record { 0 = local }) (record { 0 = n }) v seal signed) →
       IsSound d world (messages.Share (a_prepare s view local n v) signed)
-  unfolding seals_of in_quorum knows knows_statement
+  unfolding seals_of in_quorum
   assigned-sound view local n v seal signed leads sound =
       let own : AllOf (IsHonestSeal d world) (in_quorum (view % d.sites) (a_prepare (view % d.sites) view local n v) (signed ∷ [])) = all-right (in_client_seal v seal) _ sound.honest in
       record {
-        known = four (lt-ltb s d.sites exists) (eq-eqb (view % d.sites) s leads) (first-of-two _ _ sound.known) (second-of-two _ _ sound.known);
+        exact = (((exists, leads), sound.exact.0), sound.exact.1);
         honest = subst (λ z. AllOf (IsHonestSeal d world) (in_quorum z (a_prepare z view local n v) (signed ∷ []))) leads own;
         ranged = (
           ((refl, (sound.ranged.0.0, sound.ranged.0.1)), sound.ranged.0.3),
@@ -243,9 +243,6 @@ module _ {Wire : Type 0} (d : Deployment Wire) (world : World Wire) (few : HasFe
         );
       }
     where
-      four : {a b c e : Bool} → a ≡ true → b ≡ true → c ≡ true → e ≡ true → (((a && b) && c) && e) ≡ true
-      four {a} {b} {c} {e} x y z u = ap (λ k. ((k && b) && c) && e) x ∙ ap (λ k. (k && c) && e) y ∙ ap (λ k. k && e) z ∙ u
-
       all-right : (xs zs : List Sealed) → AllOf (IsHonestSeal d world) (xs ++ zs) → AllOf (IsHonestSeal d world) zs
       all-right [] zs h = h
       all-right (a ∷ xs) zs h = all-right xs zs h.1

@@ -36,7 +36,7 @@ made-more (y ∷ ys) x who t h = by_test (same_who y.who who && same_statement y
 module _ {Wire : Type 0} (d : Deployment Wire) where
   sound-kept : (world new : World Wire) → Kept world new → (m : Message) → IsSound d world m → IsSound d new m
   sound-kept world new kept m sound =
-      record { known = sound.known; honest = all-weaker (IsHonestSeal d world) (IsHonestSeal d new) (λ x h correct. kept x.who x.statement (h correct)) (seals_of d.sites m) sound.honest; ranged = sound.ranged }
+      record { exact = sound.exact; honest = all-weaker (IsHonestSeal d world) (IsHonestSeal d new) (λ x h correct. kept x.who x.statement (h correct)) (seals_of d.sites m) sound.honest; ranged = sound.ranged }
 
   -- What was heard stays sound.
   pub heard-kept : (world new : World Wire) → Kept world new → (hs : List Heard) → AllOf (IsSoundHeard d world) hs → AllOf (IsSoundHeard d new) hs

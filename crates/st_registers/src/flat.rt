@@ -10,7 +10,7 @@ use std::marker::Model;
 
 /// A flat world: what was proposed, each member's registers, and the log. Each call that answers Ok is
 /// one flat step, or changes nothing where the step was taken before; each refusal leaves all as it was.
-#[derive(Debug, Drop)]
+#[derive(Drop)]
 pub struct Flat {
     registers: Registers,
     log: Seq<Ordered>,
@@ -156,56 +156,5 @@ impl Flat {
     {
         self.log.as_slice().iter().any(|ordered| ordered.number == number
             && ordered.value.same(value))
-    }
-}
-
-#[cfg(test)]
-mod tests {
-    use super::*;
-    use st_words::{ClientId, Update, WordsError};
-    use std::test::Fail;
-
-    fn value(alloc: Global, op: u8) -> Result<Value, WordsError> {
-        Ok(Value::Update(Update {
-            client: ClientId(0),
-            time: 1,
-            op: Seq::from_slice(alloc, &[op])?,
-        }))
-    }
-
-    #[test]
-    fn a_chosen_value_binds_higher_views(rt: HostRuntime) -> Result<(), Fail> {
-        let alloc = rt.alloc();
-        let (aa, bb) = (value(alloc, 0xaa)?, value(alloc, 0xbb)?);
-        let mut flat = Flat::new(alloc, 3)?;
-        assert_eq!(rt; flat.order(alloc, 1, 0), Err(FlatError::NoMajority));
-        assert_eq!(rt; flat.propose(alloc, 0, 1, &aa), Ok(()));
-        assert_eq!(rt; flat.accept(alloc, 0, 0, 1), Ok(()));
-        assert_eq!(rt; flat.order(alloc, 1, 0), Err(FlatError::NoMajority));
-        assert_eq!(rt; flat.accept(alloc, 1, 0, 1), Ok(()));
-        assert_eq!(rt; flat.order(alloc, 1, 0), Ok(()));
-        assert_eq!(rt; flat.propose(alloc, 1, 1, &bb), Err(FlatError::Unsafe));
-        assert_eq!(rt; flat.propose(alloc, 0, 1, &bb), Err(FlatError::Taken));
-        assert_eq!(rt; flat.propose(alloc, 1, 1, &aa), Ok(()));
-        assert_eq!(rt; flat.close(alloc, 0, 0, 1), Err(FlatError::Written));
-        Ok(())
-    }
-
-    #[test]
-    fn closed_registers_free_higher_views(rt: HostRuntime) -> Result<(), Fail> {
-        let alloc = rt.alloc();
-        let (aa, bb) = (value(alloc, 0xaa)?, value(alloc, 0xbb)?);
-        let mut flat = Flat::new(alloc, 4)?;
-        assert_eq!(rt; flat.propose(alloc, 0, 1, &aa), Ok(()));
-        assert_eq!(rt; flat.propose(alloc, 0, 1, &aa), Ok(()));
-        assert_eq!(rt; flat.accept(alloc, 3, 1, 1), Err(FlatError::NotProposed));
-        assert_eq!(rt; flat.accept(alloc, 3, 0, 1), Ok(()));
-        assert_eq!(rt; flat.close(alloc, 0, 0, 1), Ok(()));
-        assert_eq!(rt; flat.close(alloc, 1, 0, 1), Ok(()));
-        assert_eq!(rt; flat.propose(alloc, 1, 1, &bb), Err(FlatError::Unsafe));
-        assert_eq!(rt; flat.close(alloc, 2, 0, 1), Ok(()));
-        assert_eq!(rt; flat.propose(alloc, 1, 1, &bb), Ok(()));
-        assert_eq!(rt; flat.accept(alloc, 2, 0, 1), Err(FlatError::Written));
-        Ok(())
     }
 }

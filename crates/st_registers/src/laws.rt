@@ -24,14 +24,3 @@ pub fn advances<V>()
     ensures one_logged { (old new : Tests V) (u v : V) → Advances old new →
         IsTrue (old.logged u) → IsTrue (new.logged v) → u ≡ v }
 {}
-
-#[cfg(test)]
-mod tests {
-    use super::*;
-
-    #[test]
-    fn laws_hold_at_a_type() {
-        one_value_per_number::<u8>();
-        advances::<u8>();
-    }
-}

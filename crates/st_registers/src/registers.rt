@@ -9,7 +9,7 @@ use std::alloc::Global;
 use std::marker::Model;
 
 /// The proposals of a flat world and the registers of its members, by view and number.
-#[derive(Debug, Drop)]
+#[derive(Drop)]
 pub struct Registers {
     members: u32,
     slots: Vec<Slot>,

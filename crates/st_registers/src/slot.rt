@@ -17,7 +17,7 @@ pub enum Register {
 }
 
 /// One view and number: the value that is proposed there, and the register of each member.
-#[derive(Debug, Drop)]
+#[derive(Drop)]
 pub struct Slot {
     pub view: u32,
     pub number: u32,

@@ -13,7 +13,7 @@ use Rattle.st_input.specs.declared.input.InputLine.{InputLine}
 use Rattle.st_deployment.specs.Deployed.{world_deployment}
 use Rattle.st_world.specs.declared.error.WorldError.{WorldError}
 use Rattle.st_world.specs.declared.error.WorldError.TheVariants as worlds
-use Rattle.st_world.specs.Standing.{IsWorld, Ends}
+use Rattle.st_world.specs.Standing.{Ends}
 use Rattle.st_replay.specs.declared.lines.Replay.{Replay}
 use Rattle.st_replay.specs.Ends.{end_from, end_in, ended_at, IsEnd}
 use Rattle.st_replay.specs.Lines.{events_in, world_after, IsReplayed}
@@ -69,11 +69,11 @@ module _ (old : Replay) (d : Deployment) (before : List InputLine) (x : InputLin
 
 -- it says where the lines end the world
 pub ends_as : (old : Replay) (d : Deployment) (before : List InputLine) (x : InputLine) (more : List InputLine) (e : WorldError) → IsReplayed old d before
-    → Ends e (step (world_deployment d) (world_after d before) x.line).world.ended → IsEnd (ended_at x.number e) (end_in d (before ++ x ∷ more))
-ends_as old d before x more worlds.BadReference so ends = ends_by old d before x more so model.BadReference ends
-ends_as old d before x more (worlds.Forged place) so ends = ends_by old d before x more so (model.Forged place) ends
-ends_as old d before x more worlds.TooMany so ends = (ends.0, ends_by old d before x more so (TooMany ends.0) ends.1)
-ends_as old d before x more worlds.TooMuch so ends = (ends.0, ends_by old d before x more so (TooMuch ends.0) ends.1)
+    → Ends x.number e (step (world_deployment d) (world_after d before) x.line).world.ended → IsEnd (ended_at x.number e) (end_in d (before ++ x ∷ more))
+ends_as old d before x more (worlds.BadReference line) so ends = ends_by old d before x more so model.BadReference ends.1 ∙ ap (λ n. Some (n, model.BadReference)) (sym ends.0)
+ends_as old d before x more (worlds.Forged line place) so ends = ends_by old d before x more so (model.Forged place) ends.1 ∙ ap (λ n. Some (n, model.Forged place)) (sym ends.0)
+ends_as old d before x more (worlds.TooMany count) so ends = ends_by old d before x more so (TooMany count) ends.1
+ends_as old d before x more (worlds.TooMuch bytes) so ends = ends_by old d before x more so (TooMuch bytes) ends
 ends_as old d before x more worlds.OutOfMemory so ends = tt
 
 -- a line among all

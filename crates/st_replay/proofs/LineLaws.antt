@@ -4,10 +4,8 @@ use Rattle.std.specs.Prelude.{map}
 use Rattle.std.proofs.lemmas.List.{map-append}
 use Rattle.std.proofs.lemmas.Grind.{flat_map-append}
 use Rattle.st_words.specs.declared.deployment.Deployment.{Deployment}
-use Rattle.st_protocol.specs.Words.{Bytes}
 use Rattle.st_schedule.specs.declared.line.Line.{Line}
 use Rattle.st_schedule.specs.declared.done.Done.{Done}
-use Rattle.st_protocol.specs.World as model
 use Rattle.st_protocol.specs.World.{empty}
 use Rattle.st_protocol.specs.Schedule.{step, steps}
 use Rattle.st_protocol.specs.Report.{came_from, done_row, done_words}

@@ -25,8 +25,8 @@ by_end input end is = ap (replayed_by input) is
 by_error : (error : ReplayError) (input : Input) → IsEnd error (end_in input.deployment input.lines) → IsReplay (Err error) (replay_of input)
 by_error (errors.BadReference line) input end = by_end input (Some (line, BadReference)) end
 by_error (errors.Forged line place) input end = by_end input (Some (line, Forged place)) end
-by_error (errors.TooMuch line) input end = (end.0, by_end input (Some (line, TooMuch end.0)) end.1)
-by_error (errors.TooMany line) input end = (end.0, by_end input (Some (line, TooMany end.0)) end.1)
+by_error (errors.TooMuch line bytes) input end = by_end input (Some (line, TooMuch bytes)) end
+by_error (errors.TooMany line count) input end = by_end input (Some (line, TooMany count)) end
 by_error errors.OutOfMemory input end = tt
 
 -- a world that a line ends
@@ -42,8 +42,8 @@ reported (Ok text) replay input so is memory = by_end input None (no_end input.d
 reported (Err errors.OutOfMemory) replay input so is memory = tt
 reported (Err (errors.BadReference line)) replay input so is memory = absurd (let no : errors.BadReference line ≡ errors.OutOfMemory = memory in cc)
 reported (Err (errors.Forged line place)) replay input so is memory = absurd (let no : errors.Forged line place ≡ errors.OutOfMemory = memory in cc)
-reported (Err (errors.TooMuch line)) replay input so is memory = absurd (let no : errors.TooMuch line ≡ errors.OutOfMemory = memory in cc)
-reported (Err (errors.TooMany line)) replay input so is memory = absurd (let no : errors.TooMany line ≡ errors.OutOfMemory = memory in cc)
+reported (Err (errors.TooMuch line bytes)) replay input so is memory = absurd (let no : errors.TooMuch line bytes ≡ errors.OutOfMemory = memory in cc)
+reported (Err (errors.TooMany line count)) replay input so is memory = absurd (let no : errors.TooMany line count ≡ errors.OutOfMemory = memory in cc)
 
 -- ---- the end of the whole world
 

@@ -1,20 +1,27 @@
 -- The rows of a world in memory are those of the world that it stands for.
-use Rattle.std.proofs.Common.{◌≡◌, ◌∙◌, ap, sym, ℕ, ◌+◌, ◌*◌, ◌^◌, ◌<◌, ◌&&◌, ◌||◌, not, nat_lt, cond, List, [], ◌∷◌, length, arith}
+use Rattle.std.proofs.Common.{◌≡◌, ◌∙◌, ap, sym, ℕ, ◌+◌, ◌*◌, ◌<◌, ◌&&◌, ◌||◌, not, nat_lt, Bool, cond, Option, Some, None, List, [], ◌∷◌, length}
+use Rattle.std.specs.List.{flat_map}
+use Rattle.std.proofs.lemmas.Bool.{lt-ltb}
+use denote.Ref.{Bor}
 use Rattle.st_words.specs.declared.deployment.Deployment.{Deployment}
+use Rattle.st_words.specs.declared.ids.Number.{Number}
 use Rattle.st_words.specs.declared.ids.ServerId.{ServerId}
 use Rattle.st_message.specs.declared.change.Change.{Change}
 use Rattle.st_message.specs.declared.change.Heard.{Heard}
+use Rattle.st_message.specs.declared.log.Entry.{Entry}
 use Rattle.st_report.specs.declared.rows.LogRow.{LogRow}
 use Rattle.st_report.specs.declared.rows.ServerRow.{ServerRow}
 use Rattle.st_report.specs.declared.rows.ClientRow.{ClientRow}
+use Rattle.st_report.specs.declared.rows.DoneRow.{DoneRow}
 use Rattle.st_report.specs.declared.rows.StateWord.TheVariants as states
 use Rattle.st_report.specs.declared.rows.Rows.{Rows}
 use Rattle.st_protocol.specs.Words.{Bytes, a_server}
 use Rattle.st_protocol.specs.Step.{all_below}
-use Rattle.st_protocol.specs.Questions.{executed_values, questions}
+use Rattle.st_protocol.specs.Questions.{questions}
+use Rattle.st_protocol.specs.Plain.{ArePlain}
 use Rattle.st_protocol.specs.World as model
 use Rattle.st_protocol.specs.World.{Stand, Running, is_listed, seat_of}
-use Rattle.st_protocol.specs.Report.{answers_at, server_row, server_rows, client_row, client_rows, rows_of}
+use Rattle.st_protocol.specs.Report.{answers_at, log_row, server_row, server_rows, client_row, client_rows, rows_of, result_of}
 use Rattle.st_live.specs.LiveView.{place_here}
 use Rattle.st_live.proofs.LiveLaws.{here_is}
 use Rattle.st_server.specs.declared.server.Server.{Server}
@@ -23,13 +30,10 @@ use Rattle.st_deployment.specs.Deployed.{world_deployment}
 use Rattle.st_flows.proofs.PlainKept.{plain_at}
 use Rattle.st_config.specs.Taken.{IsTaken}
 use Rattle.st_input.specs.declared.input.InputLine.{InputLine}
-use Rattle.st_world.specs.declared.world.World.{World}
-use Rattle.st_waiting.specs.Undelivered.{pairs_in}
-use Rattle.st_world.specs.Customers.{customer_in}
-use Rattle.st_world.specs.Standing.{IsWorld}
+use Rattle.st_world.specs.Answers.{IsServerHere, client_in, client_seen, result_seen}
+use Rattle.st_world.specs.Standing.{IsStanding}
 use Rattle.st_replay.specs.declared.lines.Replay.{Replay}
 use Rattle.st_replay.specs.Lines.{world_after, IsReplayed, rows_in}
-use Rattle.st_replay.specs.Log.{log_of}
 
 -- ---- a server
 
@@ -46,12 +50,16 @@ row_by server log =
       log = log;
     }
 
-pub row_is : (server : Server) (log : List LogRow) (records : List (List Change)) (heard : List Heard) → log ≡ log_of server.values → Stands server records heard
+-- a row for each entry
+abbrev log_rows : List Entry → List LogRow
+log_rows entries = flat_map (λ (entry : Entry). log_row entry ∷ []) entries
+
+pub row_is : (server : Server) (log : List LogRow) (records : List (List Change)) (heard : List Heard) → log ≡ log_rows server.entries → Stands server records heard
     → row_by server log ≡ server_row Running (questions (seat_by server) records heard)
-unfolding server_row questions executed_values
+unfolding server_row
 row_is server log records heard is stands =
     let here : place_here server.live ≡ (questions (seat_by server) records heard).here = here_is server.live (questions (seat_by server) records heard) stands.answers.live in
-    let rows : log ≡ log_of (executed_values records) = is ∙ ap log_of stands.values in
+    let rows : log ≡ log_rows (questions (seat_by server) records heard).log.run.entries = is ∙ ap log_rows stands.entries in
     λ i.
     record {
       who = a_server (here i).seat.site (here i).seat.index;
@@ -80,60 +88,70 @@ unfolding server_rows world_deployment all_below is_listed
 servers_one d m taken =
     λ i. rows_by (λ site index. server_row (m.nodes site index).stand (answers_at (world_deployment d) m site index)) (taken.sites i) (taken.f i) (taken.faulty i)
 
-servers_are : (w : World) (d : Deployment) (m : model.World Bytes) (row : ServerRow) → IsWorld w d m
-    → ((records : List (List Change)) (heard : List Heard) → Stands w.server records heard → row ≡ server_row Running (questions (seat_by w.server) records heard))
+servers_are : (server : Server) (d : Deployment) (m : model.World Bytes) (row : ServerRow) → IsTaken d → ArePlain m → IsServerHere d m (a_server 0 0) server
+    → ((records : List (List Change)) (heard : List Heard) → Stands server records heard → row ≡ server_row Running (questions (seat_by server) records heard))
     → row ∷ [] ≡ server_rows (world_deployment d) m
-servers_are w d m row stands is =
+servers_are server d m row taken plain here is =
     ap (λ (r : ServerRow). r ∷ [])
-    (is (m.nodes 0 0).bodies (m.nodes 0 0).heard stands.server
-    ∙ (λ i. server_row (sym (plain_at m stands.plain 0 0).running i) (questions (stands.set.seat i) (m.nodes 0 0).bodies (m.nodes 0 0).heard)))
-    ∙ sym (servers_one d m stands.set.taken)
+    (is (m.nodes 0 0).bodies (m.nodes 0 0).heard here.stands
+    ∙ (λ i. server_row (sym (plain_at m plain 0 0).running i) (questions (here.seat i) (m.nodes 0 0).bodies (m.nodes 0 0).heard)))
+    ∙ sym (servers_one d m taken)
 
 -- ---- the clients
 
-clients_are : (w : World) (d : Deployment) (m : model.World Bytes) → IsWorld w d m
-    → all_below (λ c. client_row c (customer_in w.customers c) ∷ []) w.deployment.clients ≡ client_rows (world_deployment d) m
+-- a client that there is
+pub client_is : (d : Deployment) (m : model.World Bytes) (c time : ℕ) (lent : Option (Number × Bor Bytes)) (own : Option (Number × Bytes)) → c < d.clients
+    → client_seen (Some (time, lent)) ≡ client_in (world_deployment d) m c → own ≡ result_seen lent → record { client = record { 0 = c }; time = time; result = own } ≡ client_row c (m.customers c)
+unfolding client_row world_deployment
+client_is d m c time lent own below seen is =
+    let there = seen ∙ ap (λ (b : Bool). cond b (Some ((m.customers c).time, result_of (m.customers c).result)) None) (lt-ltb c d.clients below) in
+    let parts : (time, result_seen lent) ≡ ((m.customers c).time, result_of (m.customers c).result) = cc in
+    λ i. record { client = record { 0 = c }; time = (parts i).0; result = (is ∙ ap (λ (x : ℕ × Option (Number × Bytes)). x.1) parts) i }
+
+-- and none that there isn't
+pub client_is_there : (d : Deployment) (m : model.World Bytes) (c : ℕ) → c < d.clients → None ≡ client_in (world_deployment d) m c → ⊥
+unfolding world_deployment
+client_is_there d m c below none =
+    absurd
+    (let no : None ≡ Some ((m.customers c).time, result_of (m.customers c).result) =
+    none ∙ ap (λ (b : Bool). cond b (Some ((m.customers c).time, result_of (m.customers c).result)) None) (lt-ltb c d.clients below) in
+    cc)
+
+-- all of them
+pub clients_all : (d : Deployment) (m : model.World Bytes) (rows : List ClientRow) (n : ℕ) → rows ≡ all_below (λ c. client_row c (m.customers c) ∷ []) n → n ≡ d.clients → rows ≡ client_rows (world_deployment d) m
 unfolding client_rows world_deployment
-clients_are w d m stands = λ i. all_below (λ c. client_row c (stands.customers c i) ∷ []) (stands.set.deployment i).clients
-
--- ---- what waits
-
-waiting_is : (w : World) (d : Deployment) (m : model.World Bytes) → IsWorld w d m → length (pairs_in w.waiting) ≡ length m.waiting
-waiting_is w d m stands = ap (λ (ps : List model.Pair). length ps) stands.sending.waiting
-
--- as many messages were sent as a number of 32 bits says
-pub few_sent : (replay : Replay) (d : Deployment) (lines : List InputLine) → IsReplayed replay d lines → length replay.world.sent < 2 ^ 32
-few_sent replay d lines so =
-    let most = so.world.sending.number in
-    let same : length replay.world.sent ≡ length (world_after d lines).sent = ap (λ (ms : List Bytes). length ms) so.world.sending.sent in
-    omega (arith, most, same)
+clients_all d m rows n is all = is ∙ ap (all_below (λ c. client_row c (m.customers c) ∷ [])) all
 
 -- ---- all rows
 
--- the rows that a world in memory has, with these of its server and its clients
-abbrev pub rows_with : Replay → Deployment → ServerRow → List ClientRow → Rows
-rows_with replay d row clients =
+-- a world that lines led to stands
+pub replay_stands : (replay : Replay) (d : Deployment) (lines : List InputLine) → IsReplayed replay d lines → IsStanding replay.world
+replay_stands replay d lines so = record { deployment = d; model = world_after d lines; stands = so.world }
+
+-- the rows with these of the lines, the server and the clients, and these counts
+abbrev pub rows_with : Deployment → List DoneRow → ServerRow → List ClientRow → ℕ → ℕ → Rows
+rows_with d done row clients sent undelivered =
     record {
       header = record { id = d.id; sites = d.sites; f = d.f; clients = d.clients };
-      done = replay.done;
+      done = done;
       servers = row ∷ [];
       clients = clients;
-      sent = length replay.world.sent;
-      undelivered = length (pairs_in replay.world.waiting);
+      sent = sent;
+      undelivered = undelivered;
     }
 
-pub rows_are : (replay : Replay) (d : Deployment) (lines : List InputLine) (row : ServerRow) (clients : List ClientRow)
-    → ((records : List (List Change)) (heard : List Heard) → Stands replay.world.server records heard → row ≡ server_row Running (questions (seat_by replay.world.server) records heard))
-    → clients ≡ all_below (λ c. client_row c (customer_in replay.world.customers c) ∷ []) replay.world.deployment.clients → IsReplayed replay d lines → rows_with replay d row clients ≡ rows_in d lines
+pub rows_are : (replay : Replay) (d : Deployment) (lines : List InputLine) (server : Server) (row : ServerRow) (clients : List ClientRow) (sent undelivered : ℕ) → IsServerHere d (world_after d lines) (a_server 0 0) server
+    → ((records : List (List Change)) (heard : List Heard) → Stands server records heard → row ≡ server_row Running (questions (seat_by server) records heard))
+    → clients ≡ client_rows (world_deployment d) (world_after d lines) → (sent ≡ length (world_after d lines).sent) × (undelivered ≡ length (world_after d lines).waiting) → IsReplayed replay d lines
+    → rows_with d replay.done row clients sent undelivered ≡ rows_in d lines
 unfolding rows_of world_deployment
-rows_are replay d lines row clients is all so =
-    let m = world_after d lines in
+rows_are replay d lines server row clients sent undelivered here is all counted so =
     λ i.
     record {
       header = record { id = d.id; sites = d.sites; f = d.f; clients = d.clients };
       done = so.done i;
-      servers = servers_are replay.world d m row so.world is i;
-      clients = (all ∙ clients_are replay.world d m so.world) i;
-      sent = length (so.world.sending.sent i);
-      undelivered = waiting_is replay.world d m so.world i;
+      servers = servers_are server d (world_after d lines) row so.world.set.taken so.world.plain here is i;
+      clients = all i;
+      sent = counted.0 i;
+      undelivered = counted.1 i;
     }

@@ -27,14 +27,14 @@ end_in d lines = end_from d empty lines
 abbrev pub IsEnd : ReplayError → Option (ℕ × Fault) → Type 0
 IsEnd (errors.BadReference line) end = end ≡ Some (line, BadReference)
 IsEnd (errors.Forged line place) end = end ≡ Some (line, Forged place)
-IsEnd (errors.TooMany line) end = (count : ℕ) × (end ≡ Some (line, TooMany count))
-IsEnd (errors.TooMuch line) end = (bytes : ℕ) × (end ≡ Some (line, TooMuch bytes))
+IsEnd (errors.TooMany line count) end = end ≡ Some (line, TooMany count)
+IsEnd (errors.TooMuch line bytes) end = end ≡ Some (line, TooMuch bytes)
 IsEnd errors.OutOfMemory end = Unit {0}
 
 -- the error of a line, as a replay says it
 abbrev pub ended_at : ℕ → WorldError → ReplayError
-ended_at line worlds.BadReference = errors.BadReference line
-ended_at line (worlds.Forged place) = errors.Forged line place
-ended_at line worlds.TooMany = errors.TooMany line
-ended_at line worlds.TooMuch = errors.TooMuch line
+ended_at line (worlds.BadReference same) = errors.BadReference same
+ended_at line (worlds.Forged same place) = errors.Forged same place
+ended_at line (worlds.TooMany count) = errors.TooMany line count
+ended_at line (worlds.TooMuch bytes) = errors.TooMuch line bytes
 ended_at line worlds.OutOfMemory = errors.OutOfMemory

@@ -1,5 +1,4 @@
 -- The definitions that contracts cite.
 pub mod Ends
 pub mod Lines
-pub mod Log
 pub mod Replay

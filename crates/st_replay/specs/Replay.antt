@@ -25,6 +25,6 @@ abbrev pub IsReplay : Result (List ℕ) ReplayError → Replayed → Type 0
 IsReplay (Ok text) replayed = replayed ≡ Reported text
 IsReplay (Err (errors.BadReference line)) replayed = replayed ≡ Ended line BadReference
 IsReplay (Err (errors.Forged line place)) replayed = replayed ≡ Ended line (Forged place)
-IsReplay (Err (errors.TooMany line)) replayed = (count : ℕ) × (replayed ≡ Ended line (TooMany count))
-IsReplay (Err (errors.TooMuch line)) replayed = (bytes : ℕ) × (replayed ≡ Ended line (TooMuch bytes))
+IsReplay (Err (errors.TooMany line count)) replayed = replayed ≡ Ended line (TooMany count)
+IsReplay (Err (errors.TooMuch line bytes)) replayed = replayed ≡ Ended line (TooMuch bytes)
 IsReplay (Err errors.OutOfMemory) replayed = Unit {0}

@@ -12,10 +12,10 @@ pub enum ReplayError {
     /// This line brings in bytes with a seal that checks for a correct party which never made it: the offset of
     /// that seal's bytes in the message.
     Forged { line: u32, place: usize },
-    /// At this line too many messages would be sent.
-    TooMany { line: u32 },
-    /// At this line too many bytes would be sent.
-    TooMuch { line: u32 },
+    /// At this line so many messages would be sent: 65,537, one more than a world has room for.
+    TooMany { line: u32, count: u32 },
+    /// At this line so many bytes would be sent, with the first message for which a world has no room.
+    TooMuch { line: u32, bytes: u64 },
     /// Memory was refused.
     OutOfMemory,
 }

@@ -5,7 +5,6 @@ mod clients;
 mod ends;
 mod error;
 mod lines;
-mod log;
 mod replayed;
 mod rows;
 mod server;

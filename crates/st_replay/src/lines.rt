@@ -76,7 +76,7 @@ impl Replay {
         ensures stands { OnOk result (IsStanding self.new.world) }
         ensures ended { IfErr result (λ error. (d : Deployment) (before more : List InputLine) → IsReplayed self.old d before → IsEnd error (end_in d (before ++ line.now ∷ more))) }
     {
-        match self.world.step(alloc, &line.line) {
+        match self.world.step(alloc, line.number, &line.line) {
             Ok(done) => {
                 let words = words_of(done);
                 self.done.push(DoneRow {
@@ -90,15 +90,15 @@ impl Replay {
     }
 }
 
-// The error of a line.
+// The error of this line.
 fn ended_at(line: u32, error: WorldError) -> ReplayError
     ensures { result ≡ ended_at line error }
 {
     match error {
-        WorldError::BadReference => ReplayError::BadReference { line },
-        WorldError::Forged { place } => ReplayError::Forged { line, place },
-        WorldError::TooMany => ReplayError::TooMany { line },
-        WorldError::TooMuch => ReplayError::TooMuch { line },
+        WorldError::BadReference { line } => ReplayError::BadReference { line },
+        WorldError::Forged { line, place } => ReplayError::Forged { line, place },
+        WorldError::TooMany { count } => ReplayError::TooMany { line, count },
+        WorldError::TooMuch { bytes } => ReplayError::TooMuch { line, bytes },
         WorldError::OutOfMemory => ReplayError::OutOfMemory,
     }
 }

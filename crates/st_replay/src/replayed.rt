@@ -1,9 +1,10 @@
-ghost use Rattle.std.specs.Prelude.{◌≡◌, List, ◌<◌, ◌^◌, length, IfOk, IsOkUnless};
+ghost use Rattle.std.specs.Prelude.{◌≡◌, List, IfOk, IsOkUnless};
 ghost use Rattle.std.specs.List.{All};
 ghost use Rattle.st_report.specs.Text.{report};
 ghost use Rattle.st_config.specs.Built.{IsBuilt};
 ghost use Rattle.st_config.specs.Taken.{IsTaken};
 ghost use Rattle.st_input.specs.declared.input.InputLine.{InputLine};
+ghost use Rattle.st_world.specs.Standing.{IsStanding};
 ghost use Rattle.st_replay.specs.Lines.{IsReplayed, rows_in};
 ghost use Rattle.st_replay.specs.Replay.{IsReplay, replay_of};
 ghost use Rattle.st_replay.specs.declared.error.ReplayError.TheVariants as errors;
@@ -30,7 +31,7 @@ pub fn replay(alloc: Global, input: &Input) -> Result<Bytes, ReplayError>
 
 // The text of the report.
 fn report(alloc: Global, d: &Deployment, replay: Replay) -> Result<Bytes, ReplayError>
-    requires sent { length replay.world.sent < 2 ^ 32 }
+    requires stands { IsStanding replay.world }
     ensures text { IfOk result (λ text. (lines : List InputLine) → IsReplayed replay d.now lines → text ≡ report (rows_in d.now lines)) }
     ensures memory { IsOkUnless result errors.OutOfMemory }
 {

@@ -1,6 +1,7 @@
-use st_fields::{Bytes, Seq};
+use st_fields::{Bytes, Copied, Seq, WordsError};
 use st_message::{Ran, Reason};
 use st_words::{ClientId, LocalView, Number, ServerId, Value, View};
+use std::alloc::Global;
 
 /// The numbers of the report's first line.
 #[derive(Clone, Copy, Debug, PartialEq, Eq)]
@@ -12,7 +13,7 @@ pub struct Header {
 }
 
 /// What an event line came to, as the report says it.
-#[derive(Debug, Drop)]
+#[derive(Drop)]
 pub enum DoneWords {
     /// The message of this number was handed out.
     Sent(u32),
@@ -41,7 +42,7 @@ pub enum DoneWords {
 }
 
 /// What the event line of this number of the input, from 1, came to.
-#[derive(Debug, Drop)]
+#[derive(Drop)]
 pub struct DoneRow {
     pub line: u32,
     pub words: DoneWords,
@@ -59,7 +60,7 @@ pub enum StateWord {
 }
 
 /// One executed number: its value and what running it gave, which is nothing exactly for a no-op.
-#[derive(Debug, Drop)]
+#[derive(Drop)]
 pub struct LogRow {
     pub value: Value,
     pub ran: Ran,
@@ -69,7 +70,7 @@ pub struct LogRow {
 pub type LogRows = Seq<LogRow>;
 
 /// A correct server: where it stands, and its log.
-#[derive(Debug, Drop)]
+#[derive(Drop)]
 pub struct ServerRow {
     pub who: ServerId,
     pub state: StateWord,
@@ -84,7 +85,7 @@ pub struct ServerRow {
 pub type ServerRows = Seq<ServerRow>;
 
 /// A client: its last time, 0 at first, and the result of its last update, if any.
-#[derive(Debug, Drop)]
+#[derive(Drop)]
 pub struct ClientRow {
     pub client: ClientId,
     pub time: u32,
@@ -95,7 +96,7 @@ pub struct ClientRow {
 pub type ClientRows = Seq<ClientRow>;
 
 /// All that a report says.
-#[derive(Debug, Drop)]
+#[derive(Drop)]
 pub struct Rows {
     pub header: Header,
     pub done: DoneRows,
@@ -103,4 +104,80 @@ pub struct Rows {
     pub clients: ClientRows,
     pub sent: u32,
     pub undelivered: u32,
+}
+
+impl Copied for DoneWords {
+    fn copy(&self, alloc: Global) -> Result<DoneWords, WordsError> {
+        match self {
+            DoneWords::Sent(message) => Ok(DoneWords::Sent(*message)),
+            DoneWords::SealsSpent(used) => Ok(DoneWords::SealsSpent(*used)),
+            DoneWords::Did => Ok(DoneWords::Did),
+            DoneWords::Ignored(reason) => Ok(DoneWords::Ignored(*reason)),
+            DoneWords::Stopped => Ok(DoneWords::Stopped),
+            DoneWords::Full => Ok(DoneWords::Full),
+            DoneWords::Faulty => Ok(DoneWords::Faulty),
+            DoneWords::Flowed {
+                pairs,
+                did,
+                ignored,
+            } => Ok(DoneWords::Flowed {
+                pairs: *pairs,
+                did: *did,
+                ignored: *ignored,
+            }),
+            DoneWords::Dropped(pairs) => Ok(DoneWords::Dropped(*pairs)),
+            DoneWords::Set => Ok(DoneWords::Set),
+            DoneWords::Running => Ok(DoneWords::Running),
+            DoneWords::Shown(bytes) => Ok(DoneWords::Shown(bytes.copy(alloc)?)),
+        }
+    }
+}
+
+impl Copied for DoneRow {
+    fn copy(&self, alloc: Global) -> Result<DoneRow, WordsError> {
+        Ok(DoneRow {
+            line: self.line,
+            words: self.words.copy(alloc)?,
+        })
+    }
+}
+
+impl Copied for LogRow {
+    fn copy(&self, alloc: Global) -> Result<LogRow, WordsError> {
+        Ok(LogRow {
+            value: self.value.copy(alloc)?,
+            ran: self.ran.copy(alloc)?,
+        })
+    }
+}
+
+impl Copied for ServerRow {
+    fn copy(&self, alloc: Global) -> Result<ServerRow, WordsError> {
+        Ok(ServerRow {
+            who: self.who,
+            state: self.state,
+            view: self.view,
+            local: self.local,
+            executed: self.executed,
+            leaf: self.leaf,
+            log: self.log.copy(alloc)?,
+        })
+    }
+}
+
+impl Copied for ClientRow {
+    fn copy(&self, alloc: Global) -> Result<ClientRow, WordsError> {
+        match &self.result {
+            None => Ok(ClientRow {
+                client: self.client,
+                time: self.time,
+                result: None,
+            }),
+            Some((number, bytes)) => Ok(ClientRow {
+                client: self.client,
+                time: self.time,
+                result: Some((*number, bytes.copy(alloc)?)),
+            }),
+        }
+    }
 }

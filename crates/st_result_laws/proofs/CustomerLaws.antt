@@ -1,7 +1,7 @@
 -- Each reply that a client keeps of a correct server was handed out by it as a Reply to the client's last update, and so was
 -- the client's result by some correct server.
 use Rattle.std.proofs.Common.{◌≡◌, ℕ, ◌<◌, Bool, true, false, cond, nat_eq, List, [], ◌∷◌, refl, sym, ◌∙◌, ap, subst}
-use Rattle.std.proofs.lemmas.Bool.{and_parts, eqb-true, ltb-true}
+use Rattle.std.proofs.lemmas.Bool.{and_parts, eqb-true}
 use Rattle.std.proofs.lemmas.Option.{same_Some}
 use Rattle.std.specs.Prelude.{◌&&◌, nat_lt, Option, Some, None}
 use Rattle.std.specs.List.{AllByRecursion as Each}
@@ -17,7 +17,7 @@ use Rattle.st_message.specs.declared.reason.Reason.TheVariants.{BadSeal}
 use Rattle.st_schedule.specs.declared.line.Line.{Line}
 use Rattle.st_protocol.specs.Words.{Bytes, server_at, client_at, a_reply}
 use Rattle.st_protocol.specs.Keeping.{given}
-use Rattle.st_protocol.specs.Known.{in_quorum, knows_statement, knows, seals_of}
+use Rattle.st_protocol.specs.Known.{in_quorum, seals_of}
 use Rattle.st_protocol.specs.Duty.{Faulty, Clean}
 use Rattle.st_protocol.specs.World.{Deployment, Node, Answered, Customer, World, empty, fresh_customer, has_made, handed, with_node, with_customer, with_waiting, uses_leaf, ends, hands, sends_to, notes_seal, hands_one, hands_out, settled, plan_at, bad_seal, read_known, reads, with_seals, with_reply, agree_on, answered, awaits, is_correct}
 use Rattle.st_protocol.specs.Schedule.{then_assigns, seals, steps}
@@ -157,18 +157,17 @@ module _ {Wire : Type 0} (d : Deployment Wire) (few : HasFewFaulty d) (h : Deplo
   abbrev ServedWorld : World Wire → Type 0
   ServedWorld world = FairWorld world × (Covers final world.made → AreServed d final world)
 
-  -- A Reply whose seal checks is of a known site, and of a correct server it is over what this handed out.
+  -- A Reply whose seal checks is of one of the sites, and of a correct server it is over what this handed out.
   reply_given : (world : World Wire) (wire : Wire) (site to time number : ℕ) (result : Bytes) (signed : Signed) → FairWire world wire →
       read_known d wire ≡ Clean (messages.Reply (a_reply site to time number result) signed) → bad_seal d (messages.Reply (a_reply site to time number result) signed) ≡ None → Covers final world.made →
       (site < d.sites) × (is_correct d site signed.index ≡ true → has_made final (server_at site signed.index) (a_reply site to time number result) ≡ true)
-  unfolding knows knows_statement seals_of in_quorum
+  unfolding seals_of in_quorum
   reply_given world wire site to time number result signed e read good c =
       let m : Message = messages.Reply (a_reply site to time number result) signed in
       let is : reads d wire ≡ Clean m = ap (λ r. with_seals d r) read ∙ ap (λ bad. given bad (Clean m) (λ place. Faulty (BadSeal place))) good in
       let checked : IsChecked d wire m = reads_checked d MessageInRange formats wire m (λ n r. subst ReadingInRange r e.0) is in
       let honest : Each (IsHonest d final) (seals_of d.sites m) = message_seals (IsHonest d final) d.sites m (e.1 c m checked.read) in
-      let known = and_parts (knows_statement d.sites d.f d.clients (a_reply site to time number result)) _ checked.known in
-      (ltb-true site d.sites (and_parts (nat_lt site d.sites) (nat_lt to d.clients) known.0).0, λ correct. honest.0 correct checked.holds.0)
+      (checked.exact.0.0, λ correct. honest.0 correct checked.holds.0)
 
   -- a Reply that a client takes
   takes_served : (world : World Wire) (client : ℕ) (wire : Wire) (site to time number : ℕ) (result : Bytes) (signed : Signed) → FairWire world wire →

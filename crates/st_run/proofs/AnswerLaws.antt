@@ -10,10 +10,11 @@ use Rattle.st_input.specs.declared.input.Input.{Input}
 use Rattle.st_input.specs.declared.input.InputLine.{InputLine}
 use Rattle.st_input.specs.Input.{Read, input_of}
 use Rattle.st_run.specs.declared.answer.Answer.{Answer}
+use Rattle.st_run.specs.declared.status.Status.{Status}
 use Rattle.st_run.specs.declared.status.Status.TheVariants as statuses
 use Rattle.st_replay.specs.Replay.{Replayed, Reported, Ended, replay_of}
 use Rattle.st_run.specs.Answers.{answer_of, at_line, bad_input, bytes_answer, ended_answer, fault_answer, forged, input_answer, is_replay, replay_answer, too_large, usage}
-use Rattle.st_run.specs.Outcomes.{IsAnswered, IsAnswerTo}
+use Rattle.st_run.specs.Outcomes.{EndsReplay, IsAnswered, IsAnswerTo}
 use Rattle.st_run.specs.Promised.{IsPromised}
 use Rattle.std.specs.Prelude.{Result, Ok, Err, IfOk, codes}
 use Rattle.std.specs.List.{All}
@@ -24,28 +25,52 @@ use Rattle.st_config.specs.Taken.{IsTaken}
 use Rattle.st_replay.specs.Lines.{events_in}
 use Rattle.st_promises.proofs.DeployedLaws.{taken_keeps}
 
+-- what an input is answered with
+abbrev AnswersInput : Status → Type 0
+AnswersInput statuses.Ok = Unit {0}
+AnswersInput statuses.BadInput = Unit {0}
+AnswersInput statuses.Forged = Unit {0}
+AnswersInput statuses.TooLarge = Unit {0}
+AnswersInput _ = ⊥
+
+-- so a replay may end, with its answer
+pub record AnswersReplay (status : Status) : Type 0 where
+  pub answered : IsAnswered status
+  pub no_usage : status ≢ statuses.Usage
+  pub ends : EndsReplay status
+
+answers_replay : (status : Status) → AnswersInput status → AnswersReplay status
+answers_replay statuses.Ok is = record { answered = tt; no_usage = λ e. cc; ends = tt }
+answers_replay statuses.BadInput is = record { answered = tt; no_usage = λ e. cc; ends = tt }
+answers_replay statuses.Forged is = record { answered = tt; no_usage = λ e. cc; ends = tt }
+answers_replay statuses.TooLarge is = record { answered = tt; no_usage = λ e. cc; ends = tt }
+answers_replay _ is = absurd is
+
 pub usage_answered : IsAnswered usage.status
 unfolding usage
 usage_answered = tt
 
 -- too much
-pub too_large_answered : (what : List ℕ) → IsAnswered (too_large what).status
+too_large_answered : (what : List ℕ) → AnswersInput (too_large what).status
 unfolding too_large
 too_large_answered what = tt
+
+pub too_large_replay : (what : List ℕ) → AnswersReplay (too_large what).status
+too_large_replay what = answers_replay (too_large what).status (too_large_answered what)
 
 pub too_large_is : (what : List ℕ) → (too_large what).status ≡ statuses.TooLarge
 unfolding too_large
 too_large_is what = refl
 
-bad_input_answered : (what : List ℕ) → IsAnswered (bad_input what).status
+bad_input_answered : (what : List ℕ) → AnswersInput (bad_input what).status
 unfolding bad_input
 bad_input_answered what = tt
 
-forged_answered : (what : List ℕ) → IsAnswered (forged what).status
+forged_answered : (what : List ℕ) → AnswersInput (forged what).status
 unfolding forged
 forged_answered what = tt
 
-fault_answered : (fault : InputFault) → IsAnswered (fault_answer fault).status
+fault_answered : (fault : InputFault) → AnswersInput (fault_answer fault).status
 unfolding fault_answer
 fault_answered faults.Utf8 = bad_input_answered (codes "utf-8")
 fault_answered faults.NoSeparator = bad_input_answered (codes "no separator")
@@ -55,26 +80,29 @@ fault_answered (faults.LongLine n) = too_large_answered (at_line n [])
 fault_answered (faults.Grammar n) = bad_input_answered (at_line n (codes ": grammar"))
 fault_answered (faults.NotBuilt n) = bad_input_answered (at_line n (codes ": not-built"))
 
-ended_answered : (n : ℕ) (fault : Fault) → IsAnswered (ended_answer n fault).status
+ended_answered : (n : ℕ) (fault : Fault) → AnswersInput (ended_answer n fault).status
 unfolding ended_answer
 ended_answered n BadReference = bad_input_answered (at_line n (codes ": reference"))
 ended_answered n (Forged place) = forged_answered (at_line n (codes " place " ++ decimal place))
 ended_answered n (TooMany count) = too_large_answered (codes "messages")
 ended_answered n (TooMuch bytes) = too_large_answered (codes "messages")
 
-replay_answered : (r : Replayed) → IsAnswered (replay_answer r).status
+replay_answered : (r : Replayed) → AnswersInput (replay_answer r).status
 replay_answered (Reported text) = tt
 replay_answered (Ended n fault) = ended_answered n fault
 
-input_answered : (input : Read Input) → IsAnswered (input_answer input).status
+input_answered : (input : Read Input) → AnswersInput (input_answer input).status
 input_answered (Ok input) = replay_answered (replay_of input)
 input_answered (Err fault) = fault_answered fault
 
--- each answer to bytes is one that a run comes to
-pub bytes_answered : (bytes : List ℕ) → IsAnswered (bytes_answer bytes).status
+bytes_answered : (bytes : List ℕ) → AnswersInput (bytes_answer bytes).status
 unfolding bytes_answer
 bytes_answered bytes =
-    cond_both (leb (length bytes) MOST_INPUT) (input_answer (input_of bytes)) (too_large (codes "input")) (λ (a : Answer). IsAnswered a.status) (λ short. input_answered (input_of bytes)) (λ long. too_large_answered (codes "input"))
+    cond_both (leb (length bytes) MOST_INPUT) (input_answer (input_of bytes)) (too_large (codes "input")) (λ (a : Answer). AnswersInput a.status) (λ short. input_answered (input_of bytes)) (λ long. too_large_answered (codes "input"))
+
+-- each answer to bytes is one that a replay comes to
+pub bytes_replay : (bytes : List ℕ) → AnswersReplay (bytes_answer bytes).status
+bytes_replay bytes = answers_replay (bytes_answer bytes).status (bytes_answered bytes)
 
 -- other words are answered with how the program is called
 pub of_other_words : (words : List (List ℕ)) (bytes : List ℕ) → is_replay words ≡ false → answer_of words bytes ≡ usage

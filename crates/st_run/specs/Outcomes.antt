@@ -13,6 +13,14 @@ IsAnswered statuses.WriteFault = ⊥
 IsAnswered statuses.OutOfMemory = ⊥
 IsAnswered _ = Unit {0}
 
+-- a replay may end so: it has no disk, no link and no journal that could fail it
+abbrev pub EndsReplay : Status → Type 0
+EndsReplay statuses.DiskFault = ⊥
+EndsReplay statuses.LinkFault = ⊥
+EndsReplay statuses.NotJournal = ⊥
+EndsReplay statuses.JournalFull = ⊥
+EndsReplay _ = Unit {0}
+
 -- The words and what the source tells determine this answer: other words than `replay` alone, and `replay` with all the
 -- bytes that are left in the source.
 unfoldable pub IsAnswerTo : List (List ℕ) → Option (List ℕ) → Answer → Type 0

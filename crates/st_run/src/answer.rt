@@ -15,7 +15,7 @@ use st_replay::{ReplayError, replay};
 use std::alloc::Global;
 
 /// What a run answers.
-#[derive(Debug, Drop)]
+#[derive(Drop)]
 pub struct Answer {
     pub status: Status,
     pub text: Bytes,

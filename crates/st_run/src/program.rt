@@ -3,7 +3,7 @@ ghost use Rattle.st_io.specs.Causes.{Rose};
 ghost use Rattle.st_io.specs.Streams.{Adds, AddsFront};
 ghost use Rattle.st_run.specs.Answers.{is_replay};
 ghost use Rattle.st_run.specs.declared.answer.Answer.{Answer};
-ghost use Rattle.st_run.specs.Outcomes.{Gave, GaveFront, IsAnswerTo, IsAnswered};
+ghost use Rattle.st_run.specs.Outcomes.{EndsReplay, Gave, GaveFront, IsAnswerTo, IsAnswered};
 ghost use Rattle.st_run.specs.Promised.{IsPromised};
 ghost use Rattle.st_run.specs.declared.status.Status.TheVariants as statuses;
 ghost use Rattle.st_run.specs.declared.program.Stopped.TheVariants as stops;
@@ -39,13 +39,17 @@ impl From<WordsError> for Stopped {
 /// correct servers' logs agree, each update in them was sealed by its client and ran at most once, and the
 /// event that completed a number's proof executed it. ReadFault comes only where the source counted a
 /// fault, and WriteFault only where the sink did; WriteFault goes before every other status. Where memory is
-/// refused, nothing is written unless the sink refused it, and then a front of the text is.
+/// refused, nothing is written unless the sink refused it, and then a front of the text is. Whatever the
+/// source tells, Usage comes only for other words than `replay`, and a replay has no disk, link or journal
+/// that could fail it.
 pub fn run<S: Source, K: Sink>(
     alloc: Global,
     words: &Vec<String>,
     source: &mut S,
     sink: &mut K,
 ) -> Status
+    ensures usage { result ≡ statuses.Usage → is_replay (map string_bytes words.now.items) ≡ false }
+    ensures replayed { is_replay (map string_bytes words.now.items) ≡ true → EndsReplay result }
     ensures answered { (answer : Answer) → IsAnswerTo (map string_bytes words.now.items) (S.left source.old) answer → IsAnswered result → Gave result answer (K.taken sink.old) (K.taken sink.new) }
     ensures promised { result ≡ statuses.Ok → (bytes : List ℕ) → S.left source.old ≡ Some bytes → IsPromised bytes }
     ensures unread { is_replay (map string_bytes words.now.items) ≡ false → S.left source.new ≡ S.left source.old }
@@ -67,6 +71,8 @@ pub fn run<S: Source, K: Sink>(
 
 /// The answer to the words and, where they are `replay`, to what the source gives.
 fn answer<S: Source>(alloc: Global, words: &[String], source: &mut S) -> Result<Answer, Stopped>
+    ensures usage { IfOk result (λ answer. answer.status ≡ statuses.Usage → is_replay (map string_bytes words.now) ≡ false) }
+    ensures replayed { is_replay (map string_bytes words.now) ≡ true → IfOk result (λ answer. EndsReplay answer.status) }
     ensures told { (answer : Answer) → IsAnswerTo (map string_bytes words.now) (S.left source.old) answer → IfOk result (λ x. x ≡ answer) }
     ensures promised { (bytes : List ℕ) → S.left source.old ≡ Some bytes → IfOk result (λ answer. answer.status ≡ statuses.Ok → IsPromised bytes) }
     ensures unread { is_replay (map string_bytes words.now) ≡ false → S.left source.new ≡ S.left source.old }
@@ -89,6 +95,8 @@ fn answer<S: Source>(alloc: Global, words: &[String], source: &mut S) -> Result<
 /// Writes an answer's text, and says how that ended.
 fn give<K: Sink>(sink: &mut K, answer: &Answer) -> Status
     requires { IsAnswered answer.now.status }
+    ensures usage { result ≡ statuses.Usage → answer.now.status ≡ statuses.Usage }
+    ensures replayed { EndsReplay answer.now.status → EndsReplay result }
     ensures gave { IsAnswered result → Gave result answer.now (K.taken sink.old) (K.taken sink.new) }
     ensures no_fault { result ≢ statuses.WriteFault → result ≢ statuses.OutOfMemory → K.faults sink.new ≡ K.faults sink.old }
     ensures write { result ≡ statuses.WriteFault → Rose (K.faults sink.old) (K.faults sink.new) }

@@ -3,7 +3,7 @@ use st_message::Outcome;
 use std::alloc::Global;
 
 /// What an event line came to.
-#[derive(Debug, Drop)]
+#[derive(Drop)]
 pub enum Done {
     /// The message of this number was handed out.
     Sent(u32),
@@ -55,47 +55,5 @@ impl Copied for Done {
             Done::Running => Ok(Done::Running),
             Done::Shown(bytes) => Ok(Done::Shown(bytes.copy(alloc)?)),
         }
-    }
-}
-
-#[cfg(test)]
-mod tests {
-    use super::*;
-    use st_message::Reason;
-    use std::test::*;
-
-    #[test]
-    fn a_copy_says_the_same(rt: HostRuntime) -> Result<(), Fail> {
-        let alloc = rt.alloc();
-        let shown = Done::Shown(Seq::from_slice(alloc, b"STM1")?);
-        match shown.copy(alloc)? {
-            Done::Shown(bytes) => assert!(rt; bytes.as_slice() == b"STM1".as_slice()),
-            _ => assert!(rt; false),
-        }
-        let flowed = Done::Flowed {
-            pairs: 7,
-            did: 4,
-            ignored: 2,
-        };
-        assert!(rt;
-            matches!(
-                flowed.copy(alloc)?,
-                Done::Flowed {
-                    pairs: 7,
-                    did: 4,
-                    ignored: 2
-                }
-            )
-        );
-        let ignored = Done::Outcome(Outcome::Ignored(Reason::Seen));
-        assert!(rt;
-            matches!(
-                ignored.copy(alloc)?,
-                Done::Outcome(Outcome::Ignored(Reason::Seen))
-            )
-        );
-        assert!(rt; matches!(Done::Sent(65_535).copy(alloc)?, Done::Sent(65_535)));
-        assert!(rt; matches!(Done::Full.copy(alloc)?, Done::Full));
-        Ok(())
     }
 }

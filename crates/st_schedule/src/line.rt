@@ -10,7 +10,7 @@ pub enum Dest {
 }
 
 /// One event of a schedule.
-#[derive(Debug, Drop)]
+#[derive(Drop)]
 pub enum Line {
     /// The client seals its next update with this operation.
     Client {

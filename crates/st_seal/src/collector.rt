@@ -11,7 +11,7 @@ use st_words::SiteId;
 use std::alloc::Global;
 
 /// What a server sealed in a slot, and its seal.
-#[derive(Debug, Drop)]
+#[derive(Drop)]
 pub(crate) struct Share {
     index: u8,
     bytes: Bytes,
@@ -20,7 +20,7 @@ pub(crate) struct Share {
 
 /// The shares of one slot of one site: at most one of each server, until a quorum's are over the same
 /// bytes.
-#[derive(Debug, Drop)]
+#[derive(Drop)]
 pub struct Collector {
     site: SiteId,
     f: u8,
@@ -28,7 +28,7 @@ pub struct Collector {
 }
 
 /// What a collector answers to a share.
-#[derive(Debug, Drop)]
+#[derive(Drop)]
 pub enum Added {
     /// It is kept, and with it these 2f+1 seals are over its bytes.
     Complete(Quorum),

@@ -14,8 +14,8 @@ use std::alloc::Global;
 const LEAVES: u32 = 1_048_576;
 
 /// The check of a deployment's keyed seals. Anyone who has the deployment can make such seals: they
-/// serve replays and first runs.
-#[derive(Clone, Copy, Debug)]
+/// serve replays and first runs. It has no `Debug`, so that no text shows the seed.
+#[derive(Clone, Copy)]
 pub struct KeyedSeals {
     sites: u8,
     f: u8,

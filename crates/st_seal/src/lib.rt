@@ -14,6 +14,3 @@ pub use keyed::{KeyedSealer, KeyedSeals};
 pub use quorum::{Quorum, Quorums, Signed};
 pub use sealer::{Check, SealError, Sealer};
 pub use voice::{SiteVoice, SoloVoice, Voice};
-
-#[cfg(test)]
-mod tests;

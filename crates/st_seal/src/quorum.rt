@@ -7,7 +7,7 @@ use std::alloc::Global;
 use std::marker::Model;
 
 /// A server's seal: its index in its site, and the seal.
-#[derive(Debug, Drop)]
+#[derive(Drop)]
 pub struct Signed {
     pub index: u8,
     pub seal: Bytes,
@@ -29,7 +29,7 @@ impl Same for Signed {
 }
 
 /// Seals of distinct servers of a site, by rising index.
-#[derive(Debug, Drop)]
+#[derive(Drop)]
 pub struct Quorum {
     shares: Seq<Signed>,
 }

@@ -1,8 +1,8 @@
 -- A server that did nothing yet stands for empty lists.
 use Rattle.std.proofs.Common.{◌≡◌, ◌∙◌, ap, sym, subst, ℕ, ◌≤◌, Some, None, [], refl, arith}
-use Rattle.st_protocol.specs.State.{Seat}
+use Rattle.st_protocol.specs.State.{Seat, Answers}
 use Rattle.st_protocol.specs.Keeping.{joined}
-use Rattle.st_protocol.specs.Questions.{questions, executed_in, executed_values}
+use Rattle.st_protocol.specs.Questions.{questions}
 use Rattle.st_protocol.specs.Growth.{nothing, grown, cuts, fresh_here}
 use Rattle.st_protocol.proofs.QuestionLaws.{questions_grow}
 use Rattle.st_state.specs.HereView.{seat_of}
@@ -54,10 +54,13 @@ asked_nothing live seat same fresh slots last place pending hand own =
 pub stands_fresh : (server : Server) → IsFresh server.live.here → IsSeat (seat_by server)
     → slots_of (place_here server.live) server.live.slots ≡ no_slots → ((c : ℕ) → last_of server.live.clients c ≡ 0) → ((c : ℕ) → place_of server.live.clients c ≡ 0)
     → pending_of (last_of server.live.clients) server.live.pending ≡ (λ c. None) → hand_of (place_here server.live) server.live.hand ≡ no_hand → own_of (place_here server.live) server.live.own ≡ no_own
-    → server.live.ran ≡ 0 → server.values ≡ [] → ((n : ℕ) → entry server.replies n ≡ None) → Stands server [] []
-unfolding nothing executed_values executed_in joined
-stands_fresh server fresh known slots last place pending hand own ran values replies =
-    record { answers = subst (StandsBy server) (sym (questions_of_nothing (seat_by server) cut)) by_nothing; values = values }
+    → server.live.ran ≡ 0 → server.entries ≡ [] → ((n : ℕ) → entry server.replies n ≡ None) → Stands server [] []
+unfolding nothing
+stands_fresh server fresh known slots last place pending hand own ran entries replies =
+    record {
+      answers = subst (StandsBy server) (sym (questions_of_nothing (seat_by server) cut)) by_nothing;
+      entries = entries ∙ sym (ap (λ (q : Answers). q.log.run.entries) (questions_of_nothing (seat_by server) cut));
+    }
   where
     is : asked (past_of (nothing (seat_by server))) server.live ≡ nothing (seat_by server)
     is = asked_nothing server.live (seat_by server) refl fresh slots last place pending hand own

@@ -9,5 +9,7 @@ pub mod LeafLaws
 pub mod FillLaws
 pub mod LowLaws
 pub mod AnswerLaws
+pub mod ExecutionLaws
 pub mod ServeLaws
 pub mod FreshLaws
+pub mod StandingLaws

@@ -1,10 +1,7 @@
 -- A server that settles a plan stands for the longer lists.
 use Rattle.std.proofs.Common.{◌≡◌, ◌∙◌, ap, sym, subst, ℕ, ◌+◌, ◌<◌, ◌≤◌, true, false, cond, length, take, get_or, Option, Some, None, List, [], ◌∷◌, ◌++◌, refl}
-use Rattle.std.specs.List.{flat_map}
 use Rattle.std.proofs.lemmas.List.{append-nil}
-use Rattle.std.proofs.lemmas.Grind.{flat_map-append}
 use Rattle.st_words.specs.declared.deployment.TheConstants.{LAST_NUMBER}
-use Rattle.st_words.specs.declared.value.Value.{Value}
 use Rattle.st_message.specs.declared.change.Change.{Change}
 use Rattle.st_message.specs.declared.change.Heard.{Heard}
 use Rattle.st_message.specs.declared.event.Plan.{Plan}
@@ -14,7 +11,7 @@ use Rattle.st_message.specs.declared.step.Step.{Step}
 use Rattle.st_tables.specs.Entries.{entry}
 use Rattle.st_protocol.specs.Keeping.{given, or_else, first_of, joined}
 use Rattle.st_protocol.specs.State.{Seat, Here, Hand, Answers, Sealing, Word, at_reply}
-use Rattle.st_protocol.specs.Questions.{questions, answers_by, here_of, sealing_in, values_by, executed_in, executed_values}
+use Rattle.st_protocol.specs.Questions.{questions, answers_by, here_of, sealing_in}
 use Rattle.st_message.specs.declared.reason.Reason.{Reason}
 use Rattle.st_message.specs.declared.reason.Reason.TheVariants.{Unknown}
 use Rattle.st_protocol.specs.Step.{Answer}
@@ -103,16 +100,12 @@ unfolding questions
 replies_more seat records body heard others n =
     ap (first_of (sealing_in (at_reply n))) (joined-push records body) ∙ gathered-append firsts (sealing_in (at_reply n)) (joined records) body
 
-values_more : (records : List (List Change)) (body : List Change) → executed_values (records ++ body ∷ []) ≡ executed_values records ++ executed_in body
-unfolding executed_values executed_in
-values_more records body = ap (flat_map values_by) (joined-push records body) ∙ flat_map-append values_by (joined records) body
-
 pub settled : (old new : Server) (records : List (List Change)) (heard others : List Heard) (body : List Change) (next : Option Live) → Stands old records heard
     → Leads next old (questions (seat_by old) (records ++ body ∷ []) (heard ++ others))
-    → new.live ≡ given next old.live (λ l. l) → new.values ≡ old.values ++ executed_in body
+    → new.live ≡ given next old.live (λ l. l) → new.entries ≡ (questions (seat_by old) (records ++ body ∷ []) (heard ++ others)).log.run.entries
     → ((n : ℕ) → entry new.replies n ≡ or_else (entry old.replies n) (first_of (sealing_in (at_reply n)) body))
     → Stands new (records ++ body ∷ []) (heard ++ others)
-settled old new records heard others body next stands leads live values replies =
+settled old new records heard others body next stands leads live entries replies =
     record {
       answers =
           record {
@@ -123,7 +116,7 @@ settled old new records heard others body next stands leads live values replies 
                 ∙ (replies_more (seat_by old) records body heard (heard ++ others) n
                 ∙ (ap (λ (r : Option Sealing). or_else r (first_of (sealing_in (at_reply n)) body)) (stands.answers.replies n) ∙ sym (replies n)));
           };
-      values = values ∙ (ap (λ (vs : List Value). vs ++ executed_in body) stands.values ∙ sym (values_more records body));
+      entries = entries ∙ ap (λ (s : Seat). (questions s (records ++ body ∷ []) (heard ++ others)).log.run.entries) seat;
     }
   where
     seat : seat_by old ≡ seat_by new

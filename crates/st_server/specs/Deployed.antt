@@ -1,5 +1,5 @@
--- A deployment of today's servers as a world sees it: they drive the list service, seal with keyed seals, and pass
--- messages as they are.
+-- A deployment of servers as a world in which messages are passed as they are sees it: they drive the list service and
+-- seal with keyed seals.
 use Rattle.std.specs.Prelude.{ℕ, ◌+◌, ◌*◌, Bool, ◌&&◌, ◌||◌, not, nat_lt, List}
 use Rattle.st_words.specs.declared.deployment as words
 use Rattle.st_words.specs.declared.ids.Who.{Who}

@@ -5,6 +5,7 @@ pub mod Ready
 pub mod Draw
 pub mod Carried
 pub mod LiveReplies
+pub mod Execution
 pub mod Serving
 pub mod Deployed
 pub mod Fresh

@@ -1,4 +1,4 @@
--- What a server stands for: the answers of its records and of what it heard, and the values that it executed.
+-- What a server stands for: the answers of its records and of what it heard, and its log.
 use Rattle.std.specs.Prelude.{ℕ, ◌≡◌, ◌+◌, ◌*◌, Bool, true, cond, nat_lt, Option, List}
 use Rattle.st_words.specs.declared.statement.Statement.TheVariants.{Accept}
 use Rattle.st_message.specs.declared.change.Change.{Change}
@@ -10,7 +10,7 @@ use Rattle.st_message.specs.declared.reason.Reason.TheVariants.{Unknown}
 use Rattle.st_tables.specs.Entries.{entry}
 use Rattle.st_protocol.specs.Keeping.{given}
 use Rattle.st_protocol.specs.State.{Seat, Answers}
-use Rattle.st_protocol.specs.Questions.{questions, executed_values}
+use Rattle.st_protocol.specs.Questions.{questions}
 use Rattle.st_protocol.specs.Duty.{Deliver, Reading, Faulty, Clean, Pen, plan_of}
 use Rattle.st_live.specs.declared.live.Live.{Live}
 use Rattle.st_live.specs.LiveView.{place_here, IsLive}
@@ -30,7 +30,7 @@ pub record StandsBy (server : Server) (q : Answers) : Type 0 where
 -- The server stands for these records and this heard list.
 pub record Stands (server : Server) (records : List (List Change)) (heard : List Heard) : Type 0 where
   pub answers : StandsBy server (questions (seat_by server) records heard)
-  pub values : server.values ≡ executed_values records
+  pub entries : server.entries ≡ (questions (seat_by server) records heard).log.run.entries
 
 -- The server gives some answers.
 pub record IsServing (server : Server) : Type 0 where

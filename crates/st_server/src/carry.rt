@@ -200,7 +200,7 @@ impl Draft {
         ensures memory { IsOkUnless result words.OutOfMemory }
     {
         for out in outs.as_slice() {
-            let out = copy_out(alloc, out)?;
+            let out = out.copy(alloc)?;
             self.emit(alloc, sealer, id, replies, out)?;
         }
         Ok(())
@@ -320,42 +320,4 @@ fn next_reply(alloc: Global, live: &Live, update: &Update) -> Result<Statement, 
         number: Number(live.here.executed + 1),
         result: Bytes::from_slice(alloc, &outcome)?,
     })
-}
-
-fn copy_out(alloc: Global, out: &Out) -> Result<Out, WordsError>
-    ensures equal { IfOk result (λ copy. copy ≡ out.now) }
-    ensures memory { IsOkUnless result words.OutOfMemory }
-{
-    match out {
-        Out::Make {
-            statement,
-            form,
-            to,
-        } => Ok(Out::Make {
-            statement: statement.copy(alloc)?,
-            form: copy_form(alloc, form)?,
-            to: *to,
-        }),
-        Out::Send { message, to } => Ok(Out::Send {
-            message: message.copy(alloc)?,
-            to: *to,
-        }),
-    }
-}
-
-fn copy_form(alloc: Global, form: &Form) -> Result<Form, WordsError>
-    ensures equal { IfOk result (λ copy. copy ≡ form.now) }
-    ensures memory { IsOkUnless result words.OutOfMemory }
-{
-    match form {
-        Form::Share => Ok(Form::Share),
-        Form::Assign { client_seal } => Ok(Form::Assign {
-            client_seal: client_seal.copy(alloc)?,
-        }),
-        Form::Report { quorums, base } => Ok(Form::Report {
-            quorums: quorums.copy(alloc)?,
-            base: base.copy(alloc)?,
-        }),
-        Form::Reply => Ok(Form::Reply),
-    }
 }

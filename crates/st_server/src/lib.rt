@@ -3,10 +3,10 @@
 
 mod carry;
 mod draft;
+mod execution;
 mod parts;
 mod server;
-#[cfg(test)]
-mod tests;
+mod standing;
 
 pub use draft::Draft;
 pub use parts::answer_to;

@@ -5,7 +5,7 @@ ghost use Rattle.st_message.specs.declared.change.Heard.{Heard};
 ghost use Rattle.st_tables.specs.Entries.{entry};
 ghost use Rattle.st_protocol.specs.Keeping.{or_else, first_of};
 ghost use Rattle.st_protocol.specs.State.{Answers, at_reply};
-ghost use Rattle.st_protocol.specs.Questions.{questions, executed_in, values_by, sealing_in};
+ghost use Rattle.st_protocol.specs.Questions.{questions, sealing_in};
 ghost use Rattle.st_protocol.specs.Duty.{course, did, ignored};
 ghost use Rattle.st_state.specs.Placed.{Fits};
 ghost use Rattle.st_live.specs.LiveView.{place_here};
@@ -18,14 +18,17 @@ ghost use Rattle.st_server.specs.Serving as serving;
 ghost use Rattle.st_server.specs.Serving.{seat_by, StandsBy, Stands, IsServing, knows_sender, plan_by_message, Leads};
 
 use crate::draft::Draft;
+use crate::execution::note_entries;
 use crate::parts::answer_to;
 use st_fields::{Copied, Seq, Shared, WordsError};
 use st_live::Live;
-use st_message::{Change, Changes, Here, Message, Outcome, Plan, Reason, Refused, Sealing, Step};
+use st_message::{
+    Change, Changes, Entries, Here, Message, Outcome, Plan, Reason, Refused, Sealing, Step,
+};
 use st_seal::Sealer;
 use st_state::{Clients, Hand, Own, Pending, Slots};
 use st_tables::Table;
-use st_words::{Statement, Value};
+use st_words::Statement;
 use std::alloc::Global;
 
 /// What an event comes to: what is to be done, and the short state once it is done; None where that
@@ -36,12 +39,11 @@ pub struct Planned {
     pub next: Option<Live>,
 }
 
-/// One server: its short state, the values that it executed, in order, and the Replies that it made, by
-/// number.
+/// One server: its short state, its executed log, and the Replies that it made, by number.
 #[derive(Drop)]
 pub struct Server {
     pub live: Live,
-    pub values: Seq<Value>,
+    pub entries: Entries,
     pub replies: Table<Sealing>,
 }
 
@@ -66,7 +68,7 @@ impl Server {
         };
         Ok(Server {
             live,
-            values: Seq::new(alloc),
+            entries: Seq::new(alloc),
             replies: Table::new(alloc, 0)?,
         })
     }
@@ -159,9 +161,10 @@ impl Server {
         ensures seat { OnOk result ((records : List (List Change)) (heard : List Heard) → Leads next self.old (questions (seat_by self.old) records heard) → seat_by self.new ≡ seat_by self.old) }
         ensures memory { IsOkUnless result words.OutOfMemory }
     {
-        note_values(alloc, &mut self.values, changes)?;
         note_replies(alloc, &mut self.replies, changes)?;
+        // (where the short state stays nothing is executed)
         if let Some(next) = next {
+            note_entries(alloc, &mut self.live, &mut self.entries, changes)?;
             self.live = next;
         }
         Ok(())
@@ -182,29 +185,6 @@ fn ignoring(alloc: Global, reason: Reason) -> Planned
         },
         next: None,
     }
-}
-
-// Puts the values that the changes execute last.
-#[tactic(auto, unfolding(st_protocol::specs::Questions::executed_in))]
-fn note_values(alloc: Global, values: &mut Seq<Value>, changes: &Changes) -> Result<(), WordsError>
-    ensures ok { OnOk result (values.new ≡ values.old ++ executed_in changes.now) }
-    ensures memory { IsOkUnless result words.OutOfMemory }
-{
-    for change in changes.as_slice() {
-        note_value(alloc, values, change)?;
-    }
-    Ok(())
-}
-
-fn note_value(alloc: Global, values: &mut Seq<Value>, change: &Change) -> Result<(), WordsError>
-    ensures ok { OnOk result (values.new ≡ values.old ++ values_by change.now) }
-    ensures memory { IsOkUnless result words.OutOfMemory }
-{
-    if let Change::Executed { proof, .. } = change {
-        let value = proof.value.copy(alloc)?;
-        values.push(value)?;
-    }
-    Ok(())
 }
 
 // Notes the Replies that the changes make; of two of a number the first stays.

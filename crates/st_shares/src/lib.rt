@@ -8,8 +8,6 @@ mod quorums;
 mod same;
 mod slot;
 mod step;
-#[cfg(test)]
-mod tests;
 
 pub use counting::{agreeing, complete, completes, is_seen_share};
 pub use here::{majority, out_of_window, quorum, rep, servers, to_rep, to_site};

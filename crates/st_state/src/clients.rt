@@ -65,6 +65,8 @@ impl Clients {
     ) -> Result<(), WordsError>
         ensures last { OnOk result ((c : ℕ) → last_of self.new c ≡ cond (nat_eq client.0 c) time (last_of self.old c)) }
         ensures place { OnOk result ((c : ℕ) → place_of self.new c ≡ cond (nat_eq client.0 c) place (place_of self.old c)) }
+        ensures last_err { OnErr result ((c : ℕ) → last_of self.new c ≡ last_of self.old c) }
+        ensures place_err { OnErr result ((c : ℕ) → place_of self.new c ≡ place_of self.old c) }
         ensures memory { IsOkUnless result words.OutOfMemory }
     {
         let row = Shared::new(alloc, LastRun { last: time, place })?;

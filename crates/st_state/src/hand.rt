@@ -16,7 +16,7 @@ use st_words::{Number, SiteId, Value, View};
 use std::alloc::Global;
 
 /// What a site's Accept certificate of a number and a view names.
-#[derive(Debug, Drop)]
+#[derive(Drop)]
 pub struct Named {
     pub value: Value,
     pub quorum: Quorum,

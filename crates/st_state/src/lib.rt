@@ -10,8 +10,6 @@ mod own;
 mod pending;
 mod rings;
 mod slots;
-#[cfg(test)]
-mod tests;
 
 pub use clients::{Clients, LastRun};
 pub use forced::Forced;

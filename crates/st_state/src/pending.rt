@@ -1,4 +1,4 @@
-ghost use Rattle.std.specs.Prelude.{◌≡◌, ℕ, false, nat_le, None, IfOk, OnOk, IsOkUnless};
+ghost use Rattle.std.specs.Prelude.{◌≡◌, ℕ, false, nat_le, None, IfOk, OnOk, OnErr, IsOkUnless};
 ghost use Rattle.std.specs.Option.{option_copied};
 ghost use Rattle.st_fields.specs.declared.error.WordsError.TheVariants as words;
 ghost use Rattle.st_protocol.specs.Keeping.{given};
@@ -53,6 +53,7 @@ impl Pending {
         seal: &Bytes,
     ) -> Result<(), WordsError>
         ensures ok { OnOk result ((lasts : ℕ → ℕ) → lasts update.now.client.0 ≡ last → pending_of lasts self.new ≡ pending_cuts lasts (pending_takes (heard_update update.now seal.now) (pending_of lasts self.old))) }
+        ensures err { OnErr result ((lasts : ℕ → ℕ) (c : ℕ) → pending_of lasts self.new c ≡ pending_of lasts self.old c) }
         ensures clients { self.new.clients ≡ self.old.clients }
         ensures memory { IsOkUnless result words.OutOfMemory }
     {

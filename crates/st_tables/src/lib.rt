@@ -4,8 +4,6 @@
 
 mod ring;
 mod table;
-#[cfg(test)]
-mod tests;
 
 pub use ring::Ring;
 pub use table::Table;

@@ -8,6 +8,3 @@ mod parts;
 pub use hexadecimal::{bytes_have_a_text, put_hex, read_hex};
 pub use number::{numbers_are_their_digits, read_number};
 pub use parts::{after_front, before_end};
-
-#[cfg(test)]
-mod tests;

@@ -17,29 +17,28 @@ use Rattle.st_agreement.specs.Rules.{History}
 use Rattle.st_agreement.specs.Sites.{AreSites}
 use Rattle.st_agreement.specs.Worlds as plain
 use Rattle.st_agreement.proofs.HistoryLaws.{MadePrepare, made-prepare}
-use Rattle.st_protocol.specs.Words.{server_at, a_prepare, a_proposal, an_accept, a_local_report, a_global_report}
+use Rattle.st_protocol.specs.Words.{a_prepare, a_proposal, an_accept, a_local_report, a_global_report}
 use Rattle.st_protocol.specs.Keeping.{joined}
 use Rattle.st_protocol.specs.Questions.{questions}
 use Rattle.st_protocol.specs.Report.{answers_at}
-use Rattle.st_protocol.specs.World.{Deployment, World, empty, has_made, seat_of}
+use Rattle.st_protocol.specs.World.{Deployment, World, empty, seat_of}
 use Rattle.st_protocol.specs.Schedule.{steps}
 use Rattle.st_protocol.proofs.GatherLaws.{joined-push}
 use Rattle.st_ranges.specs.Ranges.{MessageInRange}
 use Rattle.st_ranges.specs.Deployments.{DeploymentInRange, LineInRange}
-use Rattle.st_origins.specs.Origins.{comes_from_client}
+use Rattle.st_log_laws.specs.Handed.{comes_from_client}
 use Rattle.st_frame_laws.proofs.NodeFrame.{nodes_kept, pushes_kept}
 use Rattle.st_honest_laws.specs.Honest.{SealsAreRead}
 use Rattle.st_answer_laws.specs.Plain.{newest, sites_in, plain_of, Refines}
 use Rattle.st_answer_laws.specs.Fair.{HasFewFaulty}
 use Rattle.st_answer_laws.proofs.RecordLaws.{newest-push, has-onto}
-use Rattle.st_answer_laws.proofs.SealLaws.{made-by}
 use Rattle.st_answer_laws.proofs.WayLaws.{may-history}
 use Rattle.st_refinement_laws.proofs.WorldLaws.{runs-exists, runs-correct}
 use Rattle.st_log_laws.proofs.AgreeLaws.{sites, goes, invariant}
 use Rattle.st_log_laws.proofs.GrowLaws.{steps_on}
 use Rattle.st_log_laws.proofs.OwnUpdates.{updates_own, own_comes}
 use Rattle.st_union_laws.specs.Unions.{AreMaking, HasRecorded, KeepsAccept, KeepsProposal, ReportsAccept, ReportsProposal}
-use Rattle.st_union_laws.proofs.CoverLaws.{is_made, are_making, keeps_accept, keeps_proposal, reports_accept, reports_proposal}
+use Rattle.st_union_laws.proofs.CoverLaws.{is_made, keeps_accept, keeps_proposal, reports_accept, reports_proposal}
 
 -- ---- what was made stays so
 
@@ -95,11 +94,6 @@ module _ {Wire : Type 0} (d : Deployment Wire) (few : HasFewFaulty d) (h : Deplo
   history_apart s i cs runs e =
       subst (λ (rs : List Change). History (sites_in d) s rs) (sym (newest-push (last.nodes s i).bodies cs))
       (may-history (sites_in d) flat s (newest (last.nodes s i).bodies) cs (history s i runs) (goes_here.apart s i cs (exists s i runs) (correct s i runs) e))
-
-  -- What a correct server handed out it has recorded that it made.
-  pub handed_recorded : (s i : ℕ) (t : Statement) → d.faulty s i ≡ false → IsTrue (has_made last.made (server_at s i) t) → HasRecorded last s i t
-  handed_recorded s i t runs made =
-      are_making (last.nodes s i).bodies t (kept.recorded s i (exists s i runs) (correct s i runs) t (made-by (server_at s i) last.made [] t made))
 
   -- ---- items
 

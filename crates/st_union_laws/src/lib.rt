@@ -1,5 +1,6 @@
 //! What a server made stays covered by its items and its reports, unions are of a quorum of reports, and prepared values
-//! are safe, in every world of lines in range: each law is the contract of a function that has nothing to do.
+//! are safe, in every world of lines in range: each law is the contract of a function that has nothing to do. The laws are
+//! of what a server recorded as made, and so of all that it handed out (`made_statements_are_recorded` of `st_leaf_laws`).
 #![tactic(auto)]
 
 ghost use Rattle.std.specs.Prelude.{◌≡◌, ℕ, ◌<◌, false, IsTrue, Some, List, [], ◌∷◌, ◌++◌};
@@ -13,27 +14,20 @@ ghost use Rattle.st_schedule.specs.declared.line.Line.{Line};
 ghost use Rattle.st_counts.specs.Counts.{Has};
 ghost use Rattle.st_registers.specs.Tests.{Safe};
 ghost use Rattle.st_agreement.specs.Worlds.{stands, inside, outside};
-ghost use Rattle.st_protocol.specs.Words.{Quorum, server_at, a_prepare, a_proposal, an_accept, a_local_report, a_global_report, site_of, same_statement};
+ghost use Rattle.st_protocol.specs.Words.{Quorum, a_prepare, a_proposal, an_accept, a_local_report, a_global_report, site_of, same_statement};
 ghost use Rattle.st_protocol.specs.Keeping.{joined};
 ghost use Rattle.st_protocol.specs.State.{Term, union_of};
 ghost use Rattle.st_protocol.specs.Questions.{questions};
-ghost use Rattle.st_protocol.specs.World.{Deployment, empty, has_made, seat_of};
+ghost use Rattle.st_protocol.specs.World.{Deployment, empty, seat_of};
 ghost use Rattle.st_protocol.specs.Schedule.{steps};
 ghost use Rattle.st_protocol.specs.Report.{answers_at};
 ghost use Rattle.st_ranges.specs.Ranges.{MessageInRange};
 ghost use Rattle.st_ranges.specs.Deployments.{DeploymentInRange, LineInRange};
-ghost use Rattle.st_origins.specs.Origins.{comes_from_client};
+ghost use Rattle.st_log_laws.specs.Handed.{comes_from_client};
 ghost use Rattle.st_honest_laws.specs.Honest.{SealsAreRead};
 ghost use Rattle.st_answer_laws.specs.Plain.{sites_in, plain_of};
 ghost use Rattle.st_answer_laws.specs.Fair.{HasFewFaulty};
 ghost use Rattle.st_union_laws.specs.Unions.{AreMaking, HasRecorded, KeepsAccept, KeepsProposal, ReportsAccept, ReportsProposal, IsOfReports};
-
-/// In the world of any lines in range, what a correct server handed out with its seal its records have as made. The laws
-/// below are of what is recorded, and so of all that is handed out.
-pub fn what_is_handed_out_is_recorded<Wire>()
-    ensures { (d : Deployment Wire) (all : List Line) (s i : ℕ) (t : Statement) → HasFewFaulty d → DeploymentInRange d → SealsAreRead d MessageInRange → Each (LineInRange d) all → d.faulty s i ≡ false →
-        IsTrue (has_made (steps d empty all).made (server_at s i) t) → HasRecorded (steps d empty all) s i t }
-{}
 
 /// In the world of any lines in range, a correct server whose records have it that it made an Accept has executed the
 /// number, or keeps an accepted item there, of that view or a higher one (`accepts`). Where they have it that it made a
@@ -104,8 +98,6 @@ mod tests {
 
     #[test]
     fn laws_ask_nothing(rt: HostRuntime) {
-        what_is_handed_out_is_recorded::<Message>();
-        what_is_handed_out_is_recorded::<Bytes>();
         items_cover_what_was_made::<Message>();
         items_cover_what_was_made::<Bytes>();
         reports_cover_what_is_made_below::<Message>();

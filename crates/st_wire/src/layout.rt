@@ -23,7 +23,7 @@ use st_words::{Number, SiteId, Statement, Update, Value, View, Who};
 use std::alloc::Global;
 
 /// What was laid out so far: its bytes, and its seals.
-#[derive(Debug, Drop)]
+#[derive(Drop)]
 pub struct Layout {
     pub at: usize,
     pub seals: SealsIn,

@@ -21,6 +21,3 @@ pub use kind::MessageKind;
 pub use limits::{MOST_BYTES, MOST_SEAL};
 pub use message::{decode, encode, no_proper_prefix, one_message, read_back, read_elsewhere};
 pub use seal::{SealIn, SealsIn, pieces_are_the_spelling, seals_in, seals_stand};
-
-#[cfg(test)]
-mod tests;

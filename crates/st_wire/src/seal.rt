@@ -12,7 +12,7 @@ ghost use Rattle.st_wire.specs.Layout.{laid};
 
 use crate::error::MessageError;
 use crate::layout::Layout;
-use st_fields::{Bytes, Seq, WordsError};
+use st_fields::{Bytes, Copied, Seq, WordsError};
 use st_message::Message;
 use st_words::{Deployment, Statement, Who};
 use std::alloc::Global;
@@ -21,7 +21,7 @@ use std::alloc::Global;
 const MESSAGE_HEAD: usize = 13;
 
 /// A seal that stands in a message.
-#[derive(Debug, Drop)]
+#[derive(Drop)]
 pub struct SealIn {
     /// Who sealed, as the message says.
     pub who: Who,
@@ -30,6 +30,17 @@ pub struct SealIn {
     pub seal: Bytes,
     /// The offset of the seal's first byte in the message, behind the seal's length.
     pub place: usize,
+}
+
+impl Copied for SealIn {
+    fn copy(&self, alloc: Global) -> Result<SealIn, WordsError> {
+        Ok(SealIn {
+            who: self.who,
+            statement: self.statement.copy(alloc)?,
+            seal: self.seal.copy(alloc)?,
+            place: self.place,
+        })
+    }
 }
 
 /// A list of seals.

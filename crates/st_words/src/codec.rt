@@ -13,6 +13,3 @@ pub use statement::{
     no_proper_prefix, one_statement, put_core, read_core, read_statement, statement_bytes,
 };
 pub use value::{put_update, put_value, read_update, read_value};
-
-#[cfg(test)]
-mod tests;

@@ -25,8 +25,9 @@ pub enum SealKind {
     Hss { height: u8, width: u8, levels: u8 },
 }
 
-/// A deployment: its sites, servers and clients, and how they seal.
-#[derive(Debug, Drop)]
+/// A deployment: its sites, servers and clients, and how they seal. It has no `Debug`, so that no text shows
+/// the seed.
+#[derive(Drop)]
 pub struct Deployment {
     /// Below 2^63.
     pub id: u64,

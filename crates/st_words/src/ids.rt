@@ -61,21 +61,3 @@ impl Same for Who {
         *self == *other
     }
 }
-
-#[cfg(test)]
-mod tests {
-    use super::*;
-    use std::test::*;
-
-    #[test]
-    fn servers_and_parties_are_compared(rt: HostRuntime) -> Result<(), Fail> {
-        let server = ServerId { site: 1, index: 2 };
-        let copy = server.copy(rt.alloc())?;
-        assert!(rt; copy.same(&server));
-        assert!(rt; !copy.same(&ServerId { site: 1, index: 3 }));
-        let who = Who::Server(server).copy(rt.alloc())?;
-        assert!(rt; who.same(&Who::Server(server)));
-        assert!(rt; !who.same(&Who::Client(ClientId(1))));
-        Ok(())
-    }
-}

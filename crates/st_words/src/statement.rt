@@ -4,7 +4,7 @@ use st_fields::{Bytes, Copied, Same, Seq, WordsError};
 use std::alloc::Global;
 
 /// What a server knows of one number: the value that stood there in this view and local view.
-#[derive(Debug, Drop)]
+#[derive(Drop)]
 pub struct Item {
     pub number: Number,
     pub view: View,
@@ -19,7 +19,7 @@ pub type Items = Seq<Item>;
 pub type Statements = Seq<Statement>;
 
 /// What a party seals.
-#[derive(Debug, Drop)]
+#[derive(Drop)]
 pub enum Statement {
     /// The leader site's representative, or a server that follows it, gives a number this value.
     Prepare {

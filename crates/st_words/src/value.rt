@@ -3,7 +3,7 @@ use st_fields::{Bytes, Copied, Same, WordsError};
 use std::alloc::Global;
 
 /// An operation that a client asks for: the client's update of this time.
-#[derive(Debug, Drop)]
+#[derive(Drop)]
 pub struct Update {
     pub client: ClientId,
     /// The client's own count of its updates, at least 1.
@@ -13,7 +13,7 @@ pub struct Update {
 }
 
 /// What a number of the log is given: nothing, or one update.
-#[derive(Debug, Drop)]
+#[derive(Drop)]
 pub enum Value {
     Noop,
     Update(Update),

@@ -28,7 +28,7 @@ use Rattle.st_ranges.specs.Ranges.{MessageInRange}
 use Rattle.st_deployment.specs.Deployed.{world_deployment}
 use Rattle.st_deployment.proofs.SetLaws.{others_faulty}
 use Rattle.st_world.specs.declared.world.World.{World}
-use Rattle.st_world.specs.declared.error.WorldError.{WorldError}
+use Rattle.st_world.specs.declared.error.StepError.{StepError}
 use Rattle.st_world.specs.Serving.{IsFound, read_for, refusal}
 use Rattle.st_world.specs.Standing.{IsSet, IsWorld, IsStanding, CameTo}
 use Rattle.st_world.proofs.ServeLaws.{serves_nothing, ignoring}
@@ -74,7 +74,7 @@ served_nowhere w d m server wire stands is =
     (subst (λ (st : Stepped Bytes). IsWorld w d st.world) (sym same) stands, sym (ap (λ (st : Stepped Bytes). st.done) same))
 
 -- what the server takes
-pub served : (result : Result Done WorldError) (new : World) (d : Deployment) (m : model.World Bytes) (server : ServerId) (wire : Bytes) → (nat_eq server.site 0 && nat_eq server.index 0) ≡ true
+pub served : (result : Result Done StepError) (new : World) (d : Deployment) (m : model.World Bytes) (server : ServerId) (wire : Bytes) → (nat_eq server.site 0 && nat_eq server.index 0) ≡ true
     → CameTo result new d (serves (world_deployment d) m 0 0 (Deliver wire)) → CameTo result new d (serves (world_deployment d) m server.site server.index (Deliver wire))
 served result new d m server wire is came = subst (CameTo result new d) (served_here d m server wire is) came
 
@@ -85,10 +85,10 @@ served_ignored w d m server wire reason stands is read =
     subst (CameTo (Ok (dones.Outcome (Ignored reason))) w d) (serves_nothing w d m wire reason stands read ∙ served_here d m server wire is) (ignoring w d m reason stands, refl)
 
 -- what it refuses
-pub served_refused : (w : World) (d : Deployment) (m : model.World Bytes) (server : ServerId) (wire : Bytes) (refused : Refused) (result : Result Done WorldError) → result ≡ refusal refused → IsWorld w d m
+pub served_refused : (w : World) (d : Deployment) (m : model.World Bytes) (server : ServerId) (wire : Bytes) (refused : Refused) (result : Result Done StepError) → result ≡ refusal refused → IsWorld w d m
     → (nat_eq server.site 0 && nat_eq server.index 0) ≡ true → IsRead (Err refused) (reads (world_deployment d) wire) → CameTo result w d (serves (world_deployment d) m server.site server.index (Deliver wire))
 served_refused w d m server wire refused result is stands here read =
-    subst (λ (r : Result Done WorldError). CameTo r w d (serves (world_deployment d) m server.site server.index (Deliver wire))) (sym is) (by refused read)
+    subst (λ (r : Result Done StepError). CameTo r w d (serves (world_deployment d) m server.site server.index (Deliver wire))) (sym is) (by refused read)
   where
     by : (r : Refused) → IsRead (Err r) (reads (world_deployment d) wire) → CameTo (refusal r) w d (serves (world_deployment d) m server.site server.index (Deliver wire))
     by (refusals.Ignored reason) as_read = served_ignored w d m server wire reason stands here as_read
@@ -111,17 +111,17 @@ client_ignores w d m client wire reason stands read =
     subst (λ (r : Reading). CameTo (Ok (dones.Outcome (Ignored reason))) w d (client_takes (world_deployment d) m client.0 r)) (sym read) (stands, refl)
 
 -- what it refuses
-pub client_refuses : (w : World) (d : Deployment) (m : model.World Bytes) (client : ClientId) (wire : Bytes) (refused : Refused) (result : Result Done WorldError) → result ≡ refusal refused → IsWorld w d m
+pub client_refuses : (w : World) (d : Deployment) (m : model.World Bytes) (client : ClientId) (wire : Bytes) (refused : Refused) (result : Result Done StepError) → result ≡ refusal refused → IsWorld w d m
     → IsRead (Err refused) (read_known (world_deployment d) wire) → CameTo result w d (client_takes (world_deployment d) m client.0 (read_known (world_deployment d) wire))
 client_refuses w d m client wire refused result is stands read =
-    subst (λ (r : Result Done WorldError). CameTo r w d (client_takes (world_deployment d) m client.0 (read_known (world_deployment d) wire))) (sym is) (by refused read)
+    subst (λ (r : Result Done StepError). CameTo r w d (client_takes (world_deployment d) m client.0 (read_known (world_deployment d) wire))) (sym is) (by refused read)
   where
     by : (r : Refused) → IsRead (Err r) (read_known (world_deployment d) wire) → CameTo (refusal r) w d (client_takes (world_deployment d) m client.0 (read_known (world_deployment d) wire))
     by (refusals.Ignored reason) as_read = client_ignores w d m client wire reason stands as_read
     by refusals.OutOfMemory as_read = tt
 
 -- what it takes
-pub client_reads : (result : Result Done WorldError) (new : World) (d : Deployment) (m : model.World Bytes) (client : ClientId) (wire : Bytes) (message : Message) → read_known (world_deployment d) wire ≡ Clean message
+pub client_reads : (result : Result Done StepError) (new : World) (d : Deployment) (m : model.World Bytes) (client : ClientId) (wire : Bytes) (message : Message) → read_known (world_deployment d) wire ≡ Clean message
     → CameTo result new d (client_takes (world_deployment d) m client.0 (Clean message)) → CameTo result new d (client_takes (world_deployment d) m client.0 (read_known (world_deployment d) wire))
 client_reads result new d m client wire message read came = subst (λ (r : Reading). CameTo result new d (client_takes (world_deployment d) m client.0 r)) (sym read) came
 
@@ -158,7 +158,7 @@ delivered_sent w d m to k wire read bytes stands found here is =
 -- ---- by the destination
 
 -- a server
-pub taken_at_server : (result : Result Done WorldError) (new : World) (d : Deployment) (m : model.World Bytes) (to : Dest) (server : ServerId) (wire : Bytes) (read : Result Message Refused) → to ≡ dests.Server server
+pub taken_at_server : (result : Result Done StepError) (new : World) (d : Deployment) (m : model.World Bytes) (to : Dest) (server : ServerId) (wire : Bytes) (read : Result Message Refused) → to ≡ dests.Server server
     → (IsRead read (reads (world_deployment d) wire) → CameTo result new d (serves (world_deployment d) m server.site server.index (Deliver wire)))
     → IsRead read (read_for (world_deployment d) to wire) → CameTo result new d (delivers (world_deployment d) m to wire)
 unfolding delivers
@@ -166,7 +166,7 @@ taken_at_server result new d m to server wire read is taken as_read =
     subst (λ (t : Dest). CameTo result new d (delivers (world_deployment d) m t wire)) (sym is) (taken (subst (λ (t : Dest). IsRead read (read_for (world_deployment d) t wire)) is as_read))
 
 -- a client
-pub taken_at_client : (result : Result Done WorldError) (new : World) (d : Deployment) (m : model.World Bytes) (to : Dest) (client : ClientId) (wire : Bytes) (read : Result Message Refused) → to ≡ dests.Client client
+pub taken_at_client : (result : Result Done StepError) (new : World) (d : Deployment) (m : model.World Bytes) (to : Dest) (client : ClientId) (wire : Bytes) (read : Result Message Refused) → to ≡ dests.Client client
     → (IsRead read (read_known (world_deployment d) wire) → CameTo result new d (client_takes (world_deployment d) m client.0 (read_known (world_deployment d) wire)))
     → IsRead read (read_for (world_deployment d) to wire) → CameTo result new d (delivers (world_deployment d) m to wire)
 unfolding delivers

@@ -14,9 +14,9 @@ use Rattle.st_waiting.specs.declared.waiting.Waiting.{Waiting}
 use Rattle.st_waiting.specs.Undelivered.{pairs_in, newest_in}
 use Rattle.st_deployment.specs.Deployed.{world_deployment}
 use Rattle.st_world.specs.declared.world.World.{World}
-use Rattle.st_world.specs.declared.error.WorldError.{WorldError}
+use Rattle.st_world.specs.declared.error.StepError.{StepError}
 use Rattle.st_world.specs.declared.flow.Flow.{Flow}
-use Rattle.st_world.specs.Standing.{AreSent, IsSet, IsSent, IsWorld, IsStanding, Ends, CameTo}
+use Rattle.st_world.specs.Standing.{AreSent, IsSet, IsSent, IsWorld, IsStanding, EndsBy, CameTo}
 use Rattle.st_world.specs.Flows.{IsFlowing, AreFlowed, begun}
 use Rattle.st_world.proofs.EndLaws.{ends_still}
 
@@ -104,12 +104,12 @@ first_sent w p ps so first =
 -- ---- one turn
 
 -- what a delivery with the other pairs comes to
-abbrev pub Delivered : Result Done WorldError → World → World → model.Pair → Type 0
+abbrev pub Delivered : Result Done StepError → World → World → model.Pair → Type 0
 Delivered result on new p = (d : Deployment) (m : model.World Bytes) (wire : Bytes) → IsWorld on d m → slice_get m.sent p.message ≡ Some wire → CameTo result new d (delivers (world_deployment d) m p.to wire)
 
 module _ (w : World) (waiting : Waiting) (new : World) (flow : Flow) (p : model.Pair) (ps : List model.Pair) (first : pairs_in w.waiting ≡ p ∷ ps) (rest : pairs_in waiting ≡ ps) (newest : newest_in waiting ≡ newest_in w.waiting) where
   -- the delivery in this turn
-  turn_came : (result : Result Done WorldError) (d : Deployment) (x : Flowing Bytes) → IsFlowing w flow d x → Delivered result (record w { waiting = waiting }) new p
+  turn_came : (result : Result Done StepError) (d : Deployment) (x : Flowing Bytes) → IsFlowing w flow d x → Delivered result (record w { waiting = waiting }) new p
       → (wire : Bytes) × (slice_get x.world.sent p.message ≡ Some wire) × CameTo result new d (delivers (world_deployment d) (with_waiting x.world ps) p.to wire)
   unfolding with_waiting
   turn_came result d x so delivered =
@@ -130,10 +130,10 @@ module _ (w : World) (waiting : Waiting) (new : World) (flow : Flow) (p : model.
       })
 
   -- one that ended the world
-  pub turn_ended : (e : WorldError) (d : Deployment) (x : Flowing Bytes) → IsFlowing w flow d x → Delivered (Err e) (record w { waiting = waiting }) new p → Ends e (flows_first (world_deployment d) x x.world.waiting).world.ended
+  pub turn_ended : (e : StepError) (d : Deployment) (x : Flowing Bytes) → IsFlowing w flow d x → Delivered (Err e) (record w { waiting = waiting }) new p → EndsBy e (flows_first (world_deployment d) x x.world.waiting).world.ended
   turn_ended e d x so delivered =
       let came = turn_came (Err e) d x so delivered in
-      subst (λ (y : Flowing Bytes). Ends e y.world.ended) (turn_is w flow d x p ps came.0 so first came.1) came.2
+      subst (λ (y : Flowing Bytes). EndsBy e y.world.ended) (turn_is w flow d x p ps came.0 so first came.1) came.2
 
 -- a world that a delivery led to stands
 pub standing_after : (on new : World) (done : Done) (p : model.Pair) → p.message < length on.sent → IsStanding on → Delivered (Ok done) on new p → IsStanding new
@@ -183,9 +183,9 @@ flowed_all start now flow k so d m stands done is =
     (x.world, is ∙ (λ i. (flowed (world_deployment d) (record { world = m; pairs = x.pairs i; did = x.did i; ignored = x.ignored i })).done))
 
 -- a turn that ended the world ended the flow
-pub flowed_over : (e : WorldError) (start old : World) (flow : Flow) (k all : ℕ) → AreFlowed start old flow k → k < all
-    → ((d : Deployment) (x : Flowing Bytes) → IsFlowing old flow d x → Ends e (flows_first (world_deployment d) x x.world.waiting).world.ended)
-    → (d : Deployment) (m : model.World Bytes) → IsWorld start d m → Ends e (flows (world_deployment d) all (begun m)).world.ended
+pub flowed_over : (e : StepError) (start old : World) (flow : Flow) (k all : ℕ) → AreFlowed start old flow k → k < all
+    → ((d : Deployment) (x : Flowing Bytes) → IsFlowing old flow d x → EndsBy e (flows_first (world_deployment d) x x.world.waiting).world.ended)
+    → (d : Deployment) (m : model.World Bytes) → IsWorld start d m → EndsBy e (flows (world_deployment d) all (begun m)).world.ended
 flowed_over e start old flow k all so below step d m stands =
     let here : Flowing Bytes = flows (world_deployment d) (suc k) (begun m) in
     let sum : suc k + (all - suc k) ≡ all = omega (arith, below) in
@@ -193,4 +193,4 @@ flowed_over e start old flow k all so below step d m stands =
     (λ (f : Fault) ended.
     ap (λ n. (flows (world_deployment d) n (begun m)).world.ended) (sym sum)
     ∙ (ap (λ (y : Flowing Bytes). y.world.ended) (flows_split d (suc k) (all - suc k) (begun m)) ∙ flows_ended (world_deployment d) f (all - suc k) here ended))
-    (subst (λ (y : Flowing Bytes). Ends e y.world.ended) (sym (flows_last d k (begun m))) (step d (flows (world_deployment d) k (begun m)) (so d m stands)))
+    (subst (λ (y : Flowing Bytes). EndsBy e y.world.ended) (sym (flows_last d k (begun m))) (step d (flows (world_deployment d) k (begun m)) (so d m stands)))

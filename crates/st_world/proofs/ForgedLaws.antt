@@ -29,7 +29,7 @@ use Rattle.st_reading.proofs.KeptLaws.{statements_keep}
 use Rattle.st_deployment.specs.Deployed.{world_deployment}
 use Rattle.st_deployment.proofs.SetLaws.{faulty_is_none}
 use Rattle.st_world.specs.declared.world.World.{World}
-use Rattle.st_world.specs.declared.error.WorldError.{WorldError}
+use Rattle.st_world.specs.declared.error.StepError.{StepError}
 use Rattle.st_world.specs.Honest.{first_forged, unread}
 use Rattle.st_world.specs.Serving.{IsFound}
 use Rattle.st_world.specs.Standing.{IsSet, IsWorld}
@@ -117,9 +117,9 @@ unfolding world_deployment
 forged_nothing w d m bytes e set read = ap (λ r. forged_by (world_deployment d) m (as_reading r)) (read ∙ (λ i. reading_of (set.deployment i).id bytes))
 
 -- what is answered of bytes of none
-pub forged_unread : (w : World) (bytes : Bytes) (e : MessageError) (result : Result (Option ℕ) WorldError) → result ≡ unread e → IsReading (Err e) (reading_of w.deployment.id bytes)
+pub forged_unread : (w : World) (bytes : Bytes) (e : MessageError) (result : Result (Option ℕ) StepError) → result ≡ unread e → IsReading (Err e) (reading_of w.deployment.id bytes)
     → IfOk result (λ place. (d : Deployment) (m : model.World Bytes) → IsWorld w d m → option_map Forged place ≡ forged_by (world_deployment d) m ((world_deployment d).formats.read bytes))
-forged_unread w bytes e result is read = subst (λ (r : Result (Option ℕ) WorldError). IfOk r (λ place. (d : Deployment) (m : model.World Bytes) → IsWorld w d m → option_map Forged place ≡ forged_by (world_deployment d) m ((world_deployment d).formats.read bytes))) (sym is) (by e read)
+forged_unread w bytes e result is read = subst (λ (r : Result (Option ℕ) StepError). IfOk r (λ place. (d : Deployment) (m : model.World Bytes) → IsWorld w d m → option_map Forged place ≡ forged_by (world_deployment d) m ((world_deployment d).formats.read bytes))) (sym is) (by e read)
   where
     by : (e : MessageError) → IsReading (Err e) (reading_of w.deployment.id bytes)
         → IfOk (unread e) (λ place. (d : Deployment) (m : model.World Bytes) → IsWorld w d m → option_map Forged place ≡ forged_by (world_deployment d) m ((world_deployment d).formats.read bytes))

@@ -11,9 +11,9 @@ use Rattle.st_protocol.specs.World.{Fault, hands_one, hands_out}
 use Rattle.st_flows.proofs.EndLaws.{hands_out_ended}
 use Rattle.st_deployment.specs.Deployed.{world_deployment}
 use Rattle.st_world.specs.declared.world.World.{World}
-use Rattle.st_world.specs.declared.error.WorldError.{WorldError}
+use Rattle.st_world.specs.declared.error.StepError.{StepError}
 use Rattle.st_world.specs.Handing.{IsHanded}
-use Rattle.st_world.specs.Standing.{IsWorld, IsStanding, Ends}
+use Rattle.st_world.specs.Standing.{IsWorld, IsStanding, EndsBy}
 use Rattle.st_world.proofs.EndLaws.{ends_still}
 
 fold_more : {S X : Type 0} (f : S → X → S) (s : S) (xs : List X) (x : X) → fold f s (xs ++ x ∷ []) ≡ f (fold f s xs) x
@@ -37,9 +37,9 @@ handed_more start old new outs i o so below is step =
     ap (hands_out (world_deployment d) 0 0 m) (taken_next outs i o below is) ∙ fold_more (hands_one (world_deployment d) 0 0) m (take i outs) o in
     subst (IsWorld new d) (sym at) (step d (hands_out (world_deployment d) 0 0 m (take i outs)) (so d m stands))
 
-pub handed_over : (e : WorldError) (start old : World) (outs : List Output) (i : ℕ) (o : Output) → IsHanded start old (take i outs) → i < length outs → o ≡ get_or outs i o
-    → ((d : Deployment) (m : model.World Bytes) → IsWorld old d m → Ends e (hands_one (world_deployment d) 0 0 m o).ended)
-    → (d : Deployment) (m : model.World Bytes) → IsWorld start d m → Ends e (hands_out (world_deployment d) 0 0 m outs).ended
+pub handed_over : (e : StepError) (start old : World) (outs : List Output) (i : ℕ) (o : Output) → IsHanded start old (take i outs) → i < length outs → o ≡ get_or outs i o
+    → ((d : Deployment) (m : model.World Bytes) → IsWorld old d m → EndsBy e (hands_one (world_deployment d) 0 0 m o).ended)
+    → (d : Deployment) (m : model.World Bytes) → IsWorld start d m → EndsBy e (hands_out (world_deployment d) 0 0 m outs).ended
 handed_over e start old outs i o so below is step d m stands =
     let here : model.World Bytes = hands_one (world_deployment d) 0 0 (hands_out (world_deployment d) 0 0 m (take i outs)) o in
     let at : hands_out (world_deployment d) 0 0 m outs ≡ hands_out (world_deployment d) 0 0 here (drop (i + 1) outs) =

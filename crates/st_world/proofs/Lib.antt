@@ -11,3 +11,4 @@ pub mod SubmitLaws
 pub mod ForgedLaws
 pub mod NewLaws
 pub mod StepLaws
+pub mod AnswerLaws

@@ -16,7 +16,6 @@ use Rattle.st_state.specs.HereView as view
 use Rattle.st_live.specs.Service.{list_serve}
 use Rattle.st_client.specs.declared.client.Client.{Client}
 use Rattle.st_config.specs.Taken.{IsTaken}
-use Rattle.st_made.specs.Keys.{IsMade}
 use Rattle.st_waiting.specs.Undelivered.{pairs_in, newest_in}
 use Rattle.st_server.specs.Bounds.{IsSeat}
 use Rattle.st_server.specs.Fresh.{IsFresh}
@@ -77,7 +76,7 @@ no_size d = refl
 
 pub first_world : (w : World) (d : Deployment) (capacity : ℕ) → IsTaken d → w.deployment ≡ d → scheme_in w.seals ≡ scheme_of d → pen_of w.sealer ≡ pen_in (scheme_of d) (server_at 0 0) → KeepsSealers (scheme_of d) w.sealers
     → capacity ≡ capacity_of d.seals → Stands w.server [] [] → seat_by w.server ≡ view.seat_of d.clients list_serve (first_here d (record { site = 0; index = 0 }) capacity) → ((c : ℕ) → entry w.customers c ≡ None)
-    → w.sent ≡ [] → w.size ≡ 0 → pairs_in w.waiting ≡ [] → newest_in w.waiting ≡ 0 → IsMade w.made [] → IsWorld w d empty
+    → w.sent ≡ [] → w.size ≡ 0 → pairs_in w.waiting ≡ [] → newest_in w.waiting ≡ 0 → w.made ≡ [] → IsWorld w d empty
 unfolding empty fresh_node
 first_world w d capacity taken own seals sealer sealers count stands seat customers sent size pairs newest made =
     record {

@@ -1,5 +1,5 @@
 -- A message more.
-use Rattle.std.proofs.Common.{◌≡◌, ◌∙◌, ap, sym, subst, ℕ, ◌+◌, ◌-◌, ◌<◌, ◌≤◌, nat_le, nat_lt, Bool, true, false, cond, Option, Some, None, List, [], ◌∷◌, ◌++◌, length, refl, arith, le-leb}
+use Rattle.std.proofs.Common.{◌≡◌, ◌∙◌, ap, sym, subst, ℕ, ◌+◌, ◌<◌, ◌≤◌, nat_le, nat_lt, Bool, true, false, cond, Option, Some, None, List, [], ◌∷◌, ◌++◌, length, refl, arith, le-leb}
 use Rattle.std.proofs.lemmas.Bool.{lt-leb, lt-ltb, ltb-true}
 use Rattle.std.proofs.lemmas.List.{length-append}
 use Rattle.st_words.specs.declared.deployment.Deployment.{Deployment}
@@ -17,8 +17,9 @@ use Rattle.st_waiting.specs.declared.waiting.Waiting.{Waiting}
 use Rattle.st_waiting.specs.Undelivered.{pairs_in, newest_in}
 use Rattle.st_deployment.specs.Deployed.{world_deployment}
 use Rattle.st_world.specs.declared.world.World.{World}
-use Rattle.st_world.specs.declared.error.WorldError.{WorldError}
-use Rattle.st_world.specs.Standing.{AreSent, IsSet, IsSent, IsWorld, Ends}
+use Rattle.st_world.specs.declared.error.StepError.{StepError}
+use Rattle.st_world.specs.declared.error.StepError.TheVariants as steps
+use Rattle.st_world.specs.Standing.{AreSent, IsSet, IsSent, IsWorld, EndsBy}
 
 -- ---- sizes
 
@@ -86,17 +87,16 @@ abbrev pub with_sent : World → List Bytes → ℕ → Waiting → World
 with_sent w sent size waiting = record w { sent = sent; size = size; waiting = waiting }
 
 pub sent_one : (w : World) (sent : List Bytes) (size : ℕ) (waiting : Waiting) (d : Deployment) (m : model.World Bytes) (bytes : Bytes) (to : Scope) (dest : Dest) → IsWorld w d m
-    → length w.sent < MOST_MESSAGES → length bytes ≤ MOST_SENT - w.size → dests_of (world_deployment d) to ≡ dest ∷ [] → sent ≡ w.sent ++ bytes ∷ [] → size ≡ w.size + length bytes
+    → length w.sent < MOST_MESSAGES → size ≡ w.size + length bytes → size ≤ MOST_SENT → dests_of (world_deployment d) to ≡ dest ∷ [] → sent ≡ w.sent ++ bytes ∷ []
     → pairs_in waiting ≡ pairs_in w.waiting ++ record { message = length w.sent; to = dest } ∷ [] → newest_in waiting ≡ length w.sent
     → IsWorld (with_sent w sent size waiting) d (sends_to (world_deployment d) m bytes (dests_of (world_deployment d) to))
 unfolding sends_to pairs_to
-sent_one w sent size waiting d m bytes to dest stands few room one sent_is size_now waits newest_is =
+sent_one w sent size waiting d m bytes to dest stands few size_now room one sent_is waits newest_is =
     let was : IsSent w d m = stands.sending in
     let own = size_is d bytes in
     let more = size_more d m.sent bytes in
     let kept = was.size in
-    let most = was.few in
-    let whole : sent_size (world_deployment d) m.sent + size_of (world_deployment d) bytes ≤ MOST_SENT = omega (arith, own, kept, most, room) in
+    let whole : sent_size (world_deployment d) m.sent + size_of (world_deployment d) bytes ≤ MOST_SENT = omega (arith, own, kept, size_now, room) in
     let set : IsSet w d = stands.set in
     record {
       set = record { taken = set.taken; deployment = set.deployment; seals = set.seals; sealer = set.sealer; sealers = set.sealers; seat = set.seat };
@@ -109,7 +109,7 @@ sent_one w sent size waiting d m bytes to dest stands few room one sent_is size_
             sent = sent_is ∙ ap (λ (xs : List Bytes). xs ++ bytes ∷ []) was.sent;
             number = let many = length-append m.sent (bytes ∷ []) in let same : length w.sent ≡ length m.sent = ap length was.sent in omega (arith, few, same, many);
             size = size_now ∙ (ap (λ n. n + length bytes) kept ∙ sym more);
-            few = omega (arith, size_now, most, room);
+            few = room;
             newest = let many = length-append m.sent (bytes ∷ []) in let same : length w.sent ≡ length m.sent = ap length was.sent in omega (arith, newest_is, same, many);
             below = sent_below (length m.sent) (length (m.sent ++ bytes ∷ [])) m.waiting (dests_of (world_deployment d) to) (length-append m.sent (bytes ∷ [])) was.below;
             waiting = waits ∙ (λ i. was.waiting i ++ pairs_to (length (was.sent i)) (sym one i));
@@ -122,26 +122,28 @@ sent_one w sent size waiting d m bytes to dest stands few room one sent_is size_
     }
 
 pub sent_too_many : (w : World) (d : Deployment) (m : model.World Bytes) (bytes : Bytes) (to : Scope) → IsWorld w d m → MOST_MESSAGES ≤ length w.sent
-    → (count : ℕ) × ((sends_to (world_deployment d) m bytes (dests_of (world_deployment d) to)).ended ≡ Some (TooMany count))
-sent_too_many w d m bytes to stands many = (
-  length m.sent + 1,
-  ends_by d m bytes (dests_of (world_deployment d) to) stands.going
-      ∙ fault_by d m bytes true (nat_lt MOST_SENT (sent_size (world_deployment d) m.sent + size_of (world_deployment d) bytes))
-      (le-leb MOST_MESSAGES (length m.sent) (subst (λ (xs : List Bytes). MOST_MESSAGES ≤ length xs) stands.sending.sent many)) refl,
-)
+    → EndsBy (steps.TooMany (MOST_MESSAGES + 1)) (sends_to (world_deployment d) m bytes (dests_of (world_deployment d) to)).ended
+sent_too_many w d m bytes to stands many =
+    let there : MOST_MESSAGES ≤ length m.sent = subst (λ (xs : List Bytes). MOST_MESSAGES ≤ length xs) stands.sending.sent many in
+    let most = stands.sending.number in
+    let next : length m.sent + 1 ≡ MOST_MESSAGES + 1 = omega (arith, there, most) in (
+      refl,
+      ends_by d m bytes (dests_of (world_deployment d) to) stands.going
+          ∙ (fault_by d m bytes true (nat_lt MOST_SENT (sent_size (world_deployment d) m.sent + size_of (world_deployment d) bytes)) (le-leb MOST_MESSAGES (length m.sent) there) refl
+          ∙ ap (λ n. Some (TooMany n)) next),
+    )
 
-pub sent_too_much : (w : World) (d : Deployment) (m : model.World Bytes) (bytes : Bytes) (to : Scope) → IsWorld w d m → length w.sent < MOST_MESSAGES → MOST_SENT - w.size < length bytes
-    → (count : ℕ) × ((sends_to (world_deployment d) m bytes (dests_of (world_deployment d) to)).ended ≡ Some (TooMuch count))
-sent_too_much w d m bytes to stands few much =
+pub sent_too_much : (w : World) (size : ℕ) (d : Deployment) (m : model.World Bytes) (bytes : Bytes) (to : Scope) → IsWorld w d m → length w.sent < MOST_MESSAGES → size ≡ w.size + length bytes
+    → MOST_SENT < size → EndsBy (steps.TooMuch size) (sends_to (world_deployment d) m bytes (dests_of (world_deployment d) to)).ended
+sent_too_much w size d m bytes to stands few size_now much =
     let own = size_is d bytes in
     let kept = stands.sending.size in
-    let most = stands.sending.few in
-    let over : MOST_SENT < sent_size (world_deployment d) m.sent + size_of (world_deployment d) bytes = omega (arith, own, kept, most, much) in (
-      sent_size (world_deployment d) m.sent + size_of (world_deployment d) bytes,
-      ends_by d m bytes (dests_of (world_deployment d) to) stands.going
-          ∙ fault_by d m bytes false true (lt-leb MOST_MESSAGES (length m.sent) (subst (λ (xs : List Bytes). length xs < MOST_MESSAGES) stands.sending.sent few))
-          (lt-ltb MOST_SENT (sent_size (world_deployment d) m.sent + size_of (world_deployment d) bytes) over),
-    )
+    let whole : sent_size (world_deployment d) m.sent + size_of (world_deployment d) bytes ≡ size = omega (arith, own, kept, size_now) in
+    let over : MOST_SENT < sent_size (world_deployment d) m.sent + size_of (world_deployment d) bytes = omega (arith, whole, much) in
+    ends_by d m bytes (dests_of (world_deployment d) to) stands.going
+    ∙ (fault_by d m bytes false true (lt-leb MOST_MESSAGES (length m.sent) (subst (λ (xs : List Bytes). length xs < MOST_MESSAGES) stands.sending.sent few))
+    (lt-ltb MOST_SENT (sent_size (world_deployment d) m.sent + size_of (world_deployment d) bytes) over)
+    ∙ ap (λ n. Some (TooMuch n)) whole)
 
 -- ---- a server's message
 
@@ -156,6 +158,6 @@ pub hands_sent : (w new : World) (d : Deployment) (m : model.World Bytes) (o : O
     → IsWorld new d (sends_to (world_deployment d) (notes_seal (world_deployment d) 0 0 m o) bytes (dests_of (world_deployment d) o.to)) → IsWorld new d (hands_one (world_deployment d) 0 0 m o)
 hands_sent w new d m o bytes on is sent = subst (IsWorld new d) (sent_of w d m o bytes on is) sent
 
-pub hands_ended : (e : WorldError) (w : World) (d : Deployment) (m : model.World Bytes) (o : Output) (bytes : Bytes) → IsWorld w d (notes_seal (world_deployment d) 0 0 m o) → bytes ≡ message_spelling w.deployment.id o.message
-    → Ends e (sends_to (world_deployment d) (notes_seal (world_deployment d) 0 0 m o) bytes (dests_of (world_deployment d) o.to)).ended → Ends e (hands_one (world_deployment d) 0 0 m o).ended
-hands_ended e w d m o bytes on is ended = subst (λ (x : model.World Bytes). Ends e x.ended) (sent_of w d m o bytes on is) ended
+pub hands_ended : (e : StepError) (w : World) (d : Deployment) (m : model.World Bytes) (o : Output) (bytes : Bytes) → IsWorld w d (notes_seal (world_deployment d) 0 0 m o) → bytes ≡ message_spelling w.deployment.id o.message
+    → EndsBy e (sends_to (world_deployment d) (notes_seal (world_deployment d) 0 0 m o) bytes (dests_of (world_deployment d) o.to)).ended → EndsBy e (hands_one (world_deployment d) 0 0 m o).ended
+hands_ended e w d m o bytes on is ended = subst (λ (x : model.World Bytes). EndsBy e x.ended) (sent_of w d m o bytes on is) ended

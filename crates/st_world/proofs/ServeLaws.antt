@@ -20,7 +20,7 @@ use Rattle.st_hss_seal.specs.Sealing.{pen_in}
 use Rattle.st_protocol.specs.Words.{Bytes, server_at}
 use Rattle.st_protocol.specs.Keeping.{joined}
 use Rattle.st_protocol.specs.State.{Seat, Answers}
-use Rattle.st_protocol.specs.Questions.{questions, executed_in, executed_values}
+use Rattle.st_protocol.specs.Questions.{questions}
 use Rattle.st_protocol.specs.Duty.{Deliver, Clean, Faulty, ignored}
 use Rattle.st_protocol.specs.World as model
 use Rattle.st_protocol.specs.World.{Node, is_nil, reads, seat_of, plan_at, pen_at, settled, with_node, serves, Stepped, stepped, hands_out}
@@ -87,13 +87,12 @@ outputs_in_range seat bodies heard plan inside = All-from_recursion OutputInRang
 -- a body without changes is none
 without_body : (server : Server) (records : List (List Change)) (heard : List Heard) (body : List Change) → Stands server (records ++ body ∷ []) heard
     → Stands server (cond (is_nil body) records (records ++ body ∷ [])) heard
-unfolding executed_values
 without_body server records heard (x ∷ xs) stands = stands
 without_body server records heard [] stands =
     let same : joined (records ++ [] ∷ []) ≡ joined records = joined-push records [] ∙ append-nil (joined records) in
     record {
       answers = subst (StandsBy server) (same_joined (seat_by server) (records ++ [] ∷ []) records heard same) stands.answers;
-      values = stands.values ∙ ap executed_in same;
+      entries = stands.entries ∙ ap (λ (q : Answers). q.log.run.entries) (same_joined (seat_by server) (records ++ [] ∷ []) records heard same);
     }
 
 -- nor is it in lists that keep ranges

@@ -20,8 +20,8 @@ use Rattle.st_waiting.specs.declared.waiting.Waiting.{Waiting}
 use Rattle.st_waiting.specs.Undelivered.{pairs_in, newest_in}
 use Rattle.st_deployment.specs.Deployed.{world_deployment}
 use Rattle.st_world.specs.declared.world.World.{World}
-use Rattle.st_world.specs.declared.error.WorldError.{WorldError}
-use Rattle.st_world.specs.declared.error.WorldError.TheVariants as errors
+use Rattle.st_world.specs.declared.error.StepError.{StepError}
+use Rattle.st_world.specs.declared.error.StepError.TheVariants as steps
 use Rattle.st_world.specs.Standing.{AreSent, IsWorld, IsStanding, CameTo}
 use Rattle.st_world.specs.Flows.{begun}
 use Rattle.st_world.proofs.FlowLaws.{waits_on}
@@ -30,14 +30,14 @@ use Rattle.st_world.proofs.FlowLaws.{waits_on}
 
 -- what the line names isn't there
 pub no_reference : (w new : World) (d : Deployment) (m : model.World Bytes) (line : Line) → IsWorld w d m → is_reference (world_deployment d) m line ≡ false
-    → CameTo (Err errors.BadReference) new d (step (world_deployment d) m line)
+    → CameTo (Err steps.BadReference) new d (step (world_deployment d) m line)
 unfolding step ends
 no_reference w new d m line stands is =
     ap (λ b. (cond b (goes (world_deployment d) m line) (stepped (ends m (Some model.BadReference)) (dones.Dropped 0))).world.ended) is
     ∙ ap (λ (was : Option Fault). or_else was (Some model.BadReference)) stands.going
 
 -- it is there
-pub reference : (result : Result Done WorldError) (new : World) (d : Deployment) (m : model.World Bytes) (line : Line) → is_reference (world_deployment d) m line ≡ true
+pub reference : (result : Result Done StepError) (new : World) (d : Deployment) (m : model.World Bytes) (line : Line) → is_reference (world_deployment d) m line ≡ true
     → CameTo result new d (goes (world_deployment d) m line) → CameTo result new d (step (world_deployment d) m line)
 unfolding step
 reference result new d m line is came =
@@ -59,7 +59,7 @@ not_less a b most = by (nat_lt a b) refl
     by false e = e
 
 -- a client that is there asks
-pub client_asks : (result : Result Done WorldError) (w new : World) (d : Deployment) (m : model.World Bytes) (client : ClientId) (op : Bytes) → IsWorld w d m → client.0 < w.deployment.clients
+pub client_asks : (result : Result Done StepError) (w new : World) (d : Deployment) (m : model.World Bytes) (client : ClientId) (op : Bytes) → IsWorld w d m → client.0 < w.deployment.clients
     → CameTo result new d (submits (world_deployment d) m client.0 op) → CameTo result new d (step (world_deployment d) m (lines.Client client op))
 client_asks result w new d m client op stands below came =
     reference result new d m (lines.Client client op)
@@ -67,14 +67,14 @@ client_asks result w new d m client op stands below came =
 
 -- one that isn't there ends the world
 pub client_missing : (w new : World) (d : Deployment) (m : model.World Bytes) (client : ClientId) (op : Bytes) → IsWorld w d m → w.deployment.clients ≤ client.0
-    → CameTo (Err errors.BadReference) new d (step (world_deployment d) m (lines.Client client op))
+    → CameTo (Err steps.BadReference) new d (step (world_deployment d) m (lines.Client client op))
 client_missing w new d m client op stands beyond =
     no_reference w new d m (lines.Client client op) stands
     (client_test d m client op ∙ not_less client.0 d.clients (subst (λ (x : Deployment). x.clients ≤ client.0) stands.set.deployment beyond))
 
 -- ---- flows
 
-pub flow_step : (result : Result Done WorldError) (new : World) (d : Deployment) (m : model.World Bytes) (pairs : ℕ) → CameTo result new d (flowed (world_deployment d) (flows (world_deployment d) pairs (begun m)))
+pub flow_step : (result : Result Done StepError) (new : World) (d : Deployment) (m : model.World Bytes) (pairs : ℕ) → CameTo result new d (flowed (world_deployment d) (flows (world_deployment d) pairs (begun m)))
     → CameTo result new d (step (world_deployment d) m (lines.Flow pairs))
 flow_step result new d m pairs came = reference result new d m (lines.Flow pairs) refl came
 
@@ -103,7 +103,7 @@ there (x ∷ xs) zero below = (x, refl)
 there (x ∷ xs) (suc k) below = there xs k (omega (arith, below))
 
 -- a message that is there is delivered
-pub deliver_step : (result : Result Done WorldError) (w new : World) (waiting : Waiting) (d : Deployment) (m : model.World Bytes) (k : ℕ) (to : Dest) → IsWorld w d m → k < length w.sent → is_dest (world_deployment d) to ≡ true
+pub deliver_step : (result : Result Done StepError) (w new : World) (waiting : Waiting) (d : Deployment) (m : model.World Bytes) (k : ℕ) (to : Dest) → IsWorld w d m → k < length w.sent → is_dest (world_deployment d) to ≡ true
     → pairs_in waiting ≡ without (is_pair k to) (pairs_in w.waiting) → newest_in waiting ≡ newest_in w.waiting
     → ((n : model.World Bytes) (wire : Bytes) → IsWorld (record w { waiting = waiting }) d n → slice_get n.sent k ≡ Some wire → CameTo result new d (delivers (world_deployment d) n to wire))
     → CameTo result new d (step (world_deployment d) m (lines.Deliver k to))
@@ -118,12 +118,12 @@ deliver_step result w new waiting d m k to stands below dest is newest delivered
 
 -- a message or a destination isn't there
 pub deliver_missing : (w new : World) (d : Deployment) (m : model.World Bytes) (k : ℕ) (to : Dest) (dest : Bool) → IsWorld w d m → dest ≡ is_dest (world_deployment d) to → (nat_lt k (length w.sent) && dest) ≡ false
-    → CameTo (Err errors.BadReference) new d (step (world_deployment d) m (lines.Deliver k to))
+    → CameTo (Err steps.BadReference) new d (step (world_deployment d) m (lines.Deliver k to))
 deliver_missing w new d m k to dest stands is none =
     no_reference w new d m (lines.Deliver k to) stands ((λ i. nat_lt k (length (sym stands.sending.sent i)) && sym is i) ∙ none)
 
 -- a message isn't there
-pub deliver_no_message : (w new : World) (d : Deployment) (m : model.World Bytes) (k : ℕ) (to : Dest) → IsWorld w d m → length w.sent ≤ k → CameTo (Err errors.BadReference) new d (step (world_deployment d) m (lines.Deliver k to))
+pub deliver_no_message : (w new : World) (d : Deployment) (m : model.World Bytes) (k : ℕ) (to : Dest) → IsWorld w d m → length w.sent ≤ k → CameTo (Err steps.BadReference) new d (step (world_deployment d) m (lines.Deliver k to))
 deliver_no_message w new d m k to stands beyond =
     deliver_missing w new d m k to (is_dest (world_deployment d) to) stands refl (ap (λ b. b && is_dest (world_deployment d) to) (not_less k (length w.sent) beyond))
 
@@ -133,7 +133,7 @@ and_false true = refl
 and_false false = refl
 
 -- a destination isn't there
-pub deliver_no_dest : (w new : World) (d : Deployment) (m : model.World Bytes) (k : ℕ) (to : Dest) → IsWorld w d m → is_dest (world_deployment d) to ≡ false → CameTo (Err errors.BadReference) new d (step (world_deployment d) m (lines.Deliver k to))
+pub deliver_no_dest : (w new : World) (d : Deployment) (m : model.World Bytes) (k : ℕ) (to : Dest) → IsWorld w d m → is_dest (world_deployment d) to ≡ false → CameTo (Err steps.BadReference) new d (step (world_deployment d) m (lines.Deliver k to))
 deliver_no_dest w new d m k to stands none =
     deliver_missing w new d m k to (is_dest (world_deployment d) to) stands refl (ap (λ b. nat_lt k (length w.sent) && b) none ∙ and_false (nat_lt k (length w.sent)))
 
@@ -202,7 +202,7 @@ drop_step w waiting d m k to gone stands is newest count some =
 
 -- one that doesn't isn't
 pub drop_missing : (w new : World) (d : Deployment) (m : model.World Bytes) (k : ℕ) (to : Dest) (gone : ℕ) → IsWorld w d m → gone ≡ length (pairs_in w.waiting) - length (without (is_pair k to) (pairs_in w.waiting)) → gone ≡ 0
-    → CameTo (Err errors.BadReference) new d (step (world_deployment d) m (lines.Drop k to))
+    → CameTo (Err steps.BadReference) new d (step (world_deployment d) m (lines.Drop k to))
 drop_missing w new d m k to gone stands count none =
     no_reference w new d m (lines.Drop k to) stands
     (subst (λ (pairs : List model.Pair). has_pair (is_pair k to) pairs ≡ false) stands.sending.waiting (by (has_pair (is_pair k to) (pairs_in w.waiting)) refl))
@@ -218,12 +218,12 @@ pub lose_step : (w : World) (waiting : Waiting) (d : Deployment) (m : model.Worl
 lose_step w waiting d m to gone stands dest is newest count =
     reference (Ok (dones.Dropped gone)) (record w { waiting = waiting }) d m (lines.Lose to) dest (lost w waiting d m (λ p. same_dest p.to to) gone stands is newest count)
 
-pub lose_missing : (w new : World) (d : Deployment) (m : model.World Bytes) (to : Dest) → IsWorld w d m → is_dest (world_deployment d) to ≡ false → CameTo (Err errors.BadReference) new d (step (world_deployment d) m (lines.Lose to))
+pub lose_missing : (w new : World) (d : Deployment) (m : model.World Bytes) (to : Dest) → IsWorld w d m → is_dest (world_deployment d) to ≡ false → CameTo (Err steps.BadReference) new d (step (world_deployment d) m (lines.Lose to))
 lose_missing w new d m to stands none = no_reference w new d m (lines.Lose to) stands none
 
 -- ---- bytes from outside
 
-pub raw_missing : (w new : World) (d : Deployment) (m : model.World Bytes) (to : Dest) (bytes : Bytes) → IsWorld w d m → is_dest (world_deployment d) to ≡ false → CameTo (Err errors.BadReference) new d (step (world_deployment d) m (lines.Raw to bytes))
+pub raw_missing : (w new : World) (d : Deployment) (m : model.World Bytes) (to : Dest) (bytes : Bytes) → IsWorld w d m → is_dest (world_deployment d) to ≡ false → CameTo (Err steps.BadReference) new d (step (world_deployment d) m (lines.Raw to bytes))
 raw_missing w new d m to bytes stands none = no_reference w new d m (lines.Raw to bytes) stands none
 
 -- what was found is forged
@@ -234,7 +234,7 @@ pub forged_none : (found : Option ℕ) (fault : Option Fault) → found ≡ None
 forged_none found fault is same = ap (option_map model.Forged) (sym is) ∙ same
 
 -- by what is forged
-raw_by : (result : Result Done WorldError) (new : World) (d : Deployment) (m : model.World Bytes) (to : Dest) (bytes : Bytes) (forged : Option Fault) → is_dest (world_deployment d) to ≡ true
+raw_by : (result : Result Done StepError) (new : World) (d : Deployment) (m : model.World Bytes) (to : Dest) (bytes : Bytes) (forged : Option Fault) → is_dest (world_deployment d) to ≡ true
     → forged ≡ forged_by (world_deployment d) m ((world_deployment d).formats.read bytes)
     → CameTo result new d (given forged (delivers (world_deployment d) m to bytes) (λ fault. stepped (ends m (Some fault)) (dones.Dropped 0))) → CameTo result new d (step (world_deployment d) m (lines.Raw to bytes))
 unfolding world_deployment
@@ -243,13 +243,13 @@ raw_by result new d m to bytes forged dest is came =
     (subst (λ (o : Option Fault). CameTo result new d (given o (delivers (world_deployment d) m to bytes) (λ fault. stepped (ends m (Some fault)) (dones.Dropped 0)))) is came)
 
 pub raw_forged : (w new : World) (d : Deployment) (m : model.World Bytes) (to : Dest) (bytes slice : Bytes) (place : ℕ) → slice ≡ bytes → IsWorld w d m → is_dest (world_deployment d) to ≡ true
-    → Some (model.Forged place) ≡ forged_by (world_deployment d) m ((world_deployment d).formats.read slice) → CameTo (Err (errors.Forged place)) new d (step (world_deployment d) m (lines.Raw to bytes))
+    → Some (model.Forged place) ≡ forged_by (world_deployment d) m ((world_deployment d).formats.read slice) → CameTo (Err (steps.Forged place)) new d (step (world_deployment d) m (lines.Raw to bytes))
 unfolding ends
 raw_forged w new d m to bytes slice place same stands dest is =
-    raw_by (Err (errors.Forged place)) new d m to bytes (Some (model.Forged place)) dest (is ∙ ap (λ (x : Bytes). forged_by (world_deployment d) m ((world_deployment d).formats.read x)) same)
+    raw_by (Err (steps.Forged place)) new d m to bytes (Some (model.Forged place)) dest (is ∙ ap (λ (x : Bytes). forged_by (world_deployment d) m ((world_deployment d).formats.read x)) same)
     (ap (λ (was : Option Fault). or_else was (Some (model.Forged place))) stands.going)
 
-pub raw_delivered : (result : Result Done WorldError) (new : World) (d : Deployment) (m : model.World Bytes) (to : Dest) (bytes slice : Bytes) → slice ≡ bytes → is_dest (world_deployment d) to ≡ true
+pub raw_delivered : (result : Result Done StepError) (new : World) (d : Deployment) (m : model.World Bytes) (to : Dest) (bytes slice : Bytes) → slice ≡ bytes → is_dest (world_deployment d) to ≡ true
     → None ≡ forged_by (world_deployment d) m ((world_deployment d).formats.read slice) → CameTo result new d (delivers (world_deployment d) m to slice) → CameTo result new d (step (world_deployment d) m (lines.Raw to bytes))
 raw_delivered result new d m to bytes slice same dest is came =
     raw_by result new d m to bytes None dest (is ∙ ap (λ (x : Bytes). forged_by (world_deployment d) m ((world_deployment d).formats.read x)) same)
@@ -276,7 +276,7 @@ show_step w d m k bytes stands found =
     reference (Ok (dones.Shown bytes)) w d m (lines.Show k) (lt-ltb k (length m.sent) (below_of m.sent k bytes sent))
     (subst (λ (o : Option Bytes). CameTo (Ok (dones.Shown bytes)) w d (given o (stepped m (dones.Dropped 0)) (λ wire. stepped m (dones.Shown ((world_deployment d).formats.bytes wire))))) (sym sent) (stands, refl))
 
-pub show_missing : (w new : World) (d : Deployment) (m : model.World Bytes) (k : ℕ) → IsWorld w d m → slice_get w.sent k ≡ None → CameTo (Err errors.BadReference) new d (step (world_deployment d) m (lines.Show k))
+pub show_missing : (w new : World) (d : Deployment) (m : model.World Bytes) (k : ℕ) → IsWorld w d m → slice_get w.sent k ≡ None → CameTo (Err steps.BadReference) new d (step (world_deployment d) m (lines.Show k))
 show_missing w new d m k stands none =
     no_reference w new d m (lines.Show k) stands
     (not_less k (length m.sent) (subst (λ (s : List Bytes). length s ≤ k) stands.sending.sent (beyond_of w.sent k none)))

@@ -28,8 +28,8 @@ use Rattle.st_deployment.proofs.SealLengths.{seals_keep}
 use Rattle.st_sealers.specs.declared.sealers.ClientSealers.{ClientSealers}
 use Rattle.st_sealers.specs.Keeping.{KeepsSealers}
 use Rattle.st_world.specs.declared.world.World.{World}
-use Rattle.st_world.specs.declared.error.WorldError.{WorldError}
-use Rattle.st_world.specs.Standing.{IsSet, IsSent, IsWorld, IsStanding, StaysWorld, Ends, CameTo}
+use Rattle.st_world.specs.declared.error.StepError.{StepError}
+use Rattle.st_world.specs.Standing.{IsSet, IsSent, IsWorld, IsStanding, StaysWorld, EndsBy, CameTo}
 use Rattle.st_world.specs.Customers.{customer_in}
 use Rattle.st_world.specs.Submitting.{next_update, update_message}
 
@@ -185,5 +185,5 @@ module _ (w asked noted : World) (d : Deployment) (m : model.World Bytes) (clien
       subst (CameTo (Ok (dones.Sent number)) new d) (sym submits_is)
       (subst (λ (x : Bytes). IsWorld new d (sent_of x)) spelled sent, ap dones.Sent (number_is ∙ ap length asked_stands.sending.sent))
 
-  pub submit_ended : (new : World) (e : WorldError) → Ends e (sent_of bytes).ended → CameTo (Err e) new d (submits (world_deployment d) m client op)
-  submit_ended new e ended = subst (CameTo (Err e) new d) (sym submits_is) (subst (λ (x : Bytes). Ends e (sent_of x).ended) spelled ended)
+  pub submit_ended : (new : World) (e : StepError) → EndsBy e (sent_of bytes).ended → CameTo (Err e) new d (submits (world_deployment d) m client op)
+  submit_ended new e ended = subst (CameTo (Err e) new d) (sym submits_is) (subst (λ (x : Bytes). EndsBy e (sent_of x).ended) spelled ended)

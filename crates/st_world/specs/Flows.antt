@@ -7,8 +7,8 @@ use Rattle.st_protocol.specs.Schedule.{Flowing, flows}
 use Rattle.st_deployment.specs.Deployed.{world_deployment}
 use Rattle.st_world.specs.declared.world.World.{World}
 use Rattle.st_world.specs.declared.flow.Flow.{Flow}
-use Rattle.st_world.specs.declared.error.WorldError.{WorldError}
-use Rattle.st_world.specs.Standing.{IsWorld, Ends}
+use Rattle.st_world.specs.declared.error.StepError.{StepError}
+use Rattle.st_world.specs.Standing.{IsWorld, EndsBy}
 
 -- The world in memory and what was counted are those of the flow.
 pub record IsFlowing (w : World) (flow : Flow) (d : Deployment) (x : Flowing Bytes) : Type 0 where
@@ -26,6 +26,6 @@ abbrev pub AreFlowed : World → World → Flow → ℕ → Type 0
 AreFlowed start w flow k = (d : Deployment) (m : model.World Bytes) → IsWorld start d m → IsFlowing w flow d (flows (world_deployment d) k (begun m))
 
 -- a turn led to this flow, or says why its world has ended
-abbrev pub FlowedTo : Result Flow WorldError → World → Deployment → Flowing Bytes → Type 0
+abbrev pub FlowedTo : Result Flow StepError → World → Deployment → Flowing Bytes → Type 0
 FlowedTo (Ok more) w d x = IsFlowing w more d x
-FlowedTo (Err e) w d x = Ends e x.world.ended
+FlowedTo (Err e) w d x = EndsBy e x.world.ended

@@ -10,14 +10,14 @@ use Rattle.st_protocol.specs.World.{first_bad}
 use Rattle.st_protocol.specs.Schedule.{is_honest}
 use Rattle.st_reading.specs.Deployed.{seal_in}
 use Rattle.st_deployment.specs.Deployed.{world_deployment}
-use Rattle.st_world.specs.declared.error.WorldError.{WorldError}
-use Rattle.st_world.specs.declared.error.WorldError.TheVariants as errors
+use Rattle.st_world.specs.declared.error.StepError.{StepError}
+use Rattle.st_world.specs.declared.error.StepError.TheVariants as steps
 
 -- the place of the first of these seals that is forged
 abbrev pub first_forged : Deployment → model.World Bytes → List SealIn → Option ℕ
 first_forged d m seals = first_bad (is_honest (world_deployment d) m) (map seal_in seals)
 
 -- nothing is forged in bytes that are no message, unless memory was refused
-abbrev pub unread : MessageError → Result (Option ℕ) WorldError
-unread messages.OutOfMemory = Err errors.OutOfMemory
+abbrev pub unread : MessageError → Result (Option ℕ) StepError
+unread messages.OutOfMemory = Err steps.OutOfMemory
 unread _ = Ok None

@@ -18,8 +18,8 @@ use Rattle.st_protocol.specs.World as model
 use Rattle.st_protocol.specs.World.{with_node, settled, read_known, reads}
 use Rattle.st_deployment.specs.Deployed.{world_deployment}
 use Rattle.st_world.specs.declared.world.World.{World}
-use Rattle.st_world.specs.declared.error.WorldError.{WorldError}
-use Rattle.st_world.specs.declared.error.WorldError.TheVariants as errors
+use Rattle.st_world.specs.declared.error.StepError.{StepError}
+use Rattle.st_world.specs.declared.error.StepError.TheVariants as steps
 use Rattle.st_world.specs.Standing.{IsWorld}
 
 -- the world in which the server settled a plan, of which nothing is handed out yet
@@ -42,6 +42,6 @@ pub record IsFound (id : ℕ) (m : Message) : Type 0 where
   pub short : length (message_spelling id m) ≤ most_bytes
 
 -- what bytes that are refused come to
-abbrev pub refusal : Refused → Result Done WorldError
+abbrev pub refusal : Refused → Result Done StepError
 refusal (refused.Ignored reason) = Ok (dones.Outcome (Ignored reason))
-refusal refused.OutOfMemory = Err errors.OutOfMemory
+refusal refused.OutOfMemory = Err steps.OutOfMemory

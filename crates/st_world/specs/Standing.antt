@@ -12,7 +12,6 @@ use Rattle.st_protocol.specs.World as model
 use Rattle.st_protocol.specs.World.{Fault, BadReference, Forged, TooMany, TooMuch, Stepped, sent_size, seat_of}
 use Rattle.st_protocol.specs.Plain.{ArePlain}
 use Rattle.st_ranges.specs.Ranges.{ListsInRange}
-use Rattle.st_made.specs.Keys.{IsMade}
 use Rattle.st_sealers.specs.Keeping.{KeepsSealers}
 use Rattle.st_waiting.specs.Undelivered.{pairs_in, newest_in}
 use Rattle.st_config.specs.Taken.{IsTaken}
@@ -21,6 +20,8 @@ use Rattle.st_deployment.specs.Deployed.{world_deployment}
 use Rattle.st_world.specs.declared.world.World.{World}
 use Rattle.st_world.specs.declared.error.WorldError.{WorldError}
 use Rattle.st_world.specs.declared.error.WorldError.TheVariants as errors
+use Rattle.st_world.specs.declared.error.StepError.{StepError}
+use Rattle.st_world.specs.declared.error.StepError.TheVariants as steps
 use Rattle.st_world.specs.Customers.{customer_in}
 
 -- What never changes in a world of this deployment.
@@ -45,7 +46,7 @@ pub record IsSent (w : World) (d : Deployment) (m : model.World Bytes) : Type 0 
   pub newest : newest_in w.waiting ≤ length m.sent
   pub below : AreSent (length m.sent) m.waiting
   pub waiting : pairs_in w.waiting ≡ m.waiting
-  pub made : IsMade w.made m.made
+  pub made : w.made ≡ m.made
 
 -- The world in memory is this world of the deployment, which goes on.
 pub record IsWorld (w : World) (d : Deployment) (m : model.World Bytes) : Type 0 where
@@ -69,20 +70,34 @@ StaysWorld old new = (d : Deployment) (m : model.World Bytes) → IsWorld old d 
 
 -- ---- what calls come to
 
--- what an error says of why a world ended; want of memory says nothing
-abbrev pub Ends : WorldError → Option Fault → Type 0
-Ends errors.BadReference fault = fault ≡ Some BadReference
-Ends (errors.Forged place) fault = fault ≡ Some (Forged place)
-Ends errors.TooMany fault = (count : ℕ) × (fault ≡ Some (TooMany count))
-Ends errors.TooMuch fault = (bytes : ℕ) × (fault ≡ Some (TooMuch bytes))
-Ends errors.OutOfMemory fault = Unit {0}
+-- what an event's error says of why a world ended: at its 65,537th message, or with so many bytes; want of memory says
+-- nothing
+abbrev pub EndsBy : StepError → Option Fault → Type 0
+EndsBy steps.BadReference fault = fault ≡ Some BadReference
+EndsBy (steps.Forged place) fault = fault ≡ Some (Forged place)
+EndsBy (steps.TooMany count) fault = (count ≡ 65537) × (fault ≡ Some (TooMany count))
+EndsBy (steps.TooMuch bytes) fault = fault ≡ Some (TooMuch bytes)
+EndsBy steps.OutOfMemory fault = Unit {0}
 
 -- a call led to this world, or says why that has ended
-abbrev pub LedTo : {A : Type 0} → Result A WorldError → World → Deployment → model.World Bytes → Type 0
+abbrev pub LedTo : {A : Type 0} → Result A StepError → World → Deployment → model.World Bytes → Type 0
 LedTo (Ok a) w d m = IsWorld w d m
-LedTo (Err e) w d m = Ends e m.ended
+LedTo (Err e) w d m = EndsBy e m.ended
 
 -- an event came to this
-abbrev pub CameTo : Result Done WorldError → World → Deployment → Stepped Bytes → Type 0
+abbrev pub CameTo : Result Done StepError → World → Deployment → Stepped Bytes → Type 0
 CameTo (Ok done) w d st = IsWorld w d st.world × (done ≡ st.done)
-CameTo (Err e) w d st = Ends e st.world.ended
+CameTo (Err e) w d st = EndsBy e st.world.ended
+
+-- what the error of an event at a line says of why a world ended
+abbrev pub Ends : ℕ → WorldError → Option Fault → Type 0
+Ends line (errors.BadReference l) fault = (l ≡ line) × (fault ≡ Some BadReference)
+Ends line (errors.Forged l place) fault = (l ≡ line) × (fault ≡ Some (Forged place))
+Ends line (errors.TooMany count) fault = (count ≡ 65537) × (fault ≡ Some (TooMany count))
+Ends line (errors.TooMuch bytes) fault = fault ≡ Some (TooMuch bytes)
+Ends line errors.OutOfMemory fault = Unit {0}
+
+-- an event at a line came to this
+abbrev pub SteppedTo : ℕ → Result Done WorldError → World → Deployment → Stepped Bytes → Type 0
+SteppedTo line (Ok done) w d st = IsWorld w d st.world × (done ≡ st.done)
+SteppedTo line (Err e) w d st = Ends line e st.world.ended

@@ -7,12 +7,12 @@ ghost use Rattle.st_protocol.specs.World.{bad_seal, with_customer, client_takes}
 ghost use Rattle.st_client.specs.Customers.{customer_of};
 ghost use Rattle.st_client.specs.Replying.{reply_customer, reply_outcome};
 ghost use Rattle.st_deployment.specs.Deployed.{world_deployment};
-ghost use Rattle.st_world.specs.declared.error.WorldError.TheVariants as errors;
+ghost use Rattle.st_world.specs.declared.error.StepError.TheVariants as steps;
 ghost use Rattle.st_world.specs.Customers.{customer_in};
 ghost use Rattle.st_world.specs.Serving.{IsFound};
 ghost use Rattle.st_world.specs.Standing.{IsSet, IsWorld, IsStanding, CameTo};
 
-use crate::error::WorldError;
+use crate::error::StepError;
 use crate::world::World;
 use st_client::Client;
 use st_fields::{Bytes, Shared};
@@ -24,9 +24,9 @@ use std::alloc::Global;
 
 impl World {
     // The client of a number, to change.
-    pub(crate) fn customer(&self, alloc: Global, client: ClientId) -> Result<Client, WorldError>
+    pub(crate) fn customer(&self, alloc: Global, client: ClientId) -> Result<Client, StepError>
         ensures equal { IfOk result (λ customer. customer_of customer ≡ customer_in self.now.customers client.0) }
-        ensures memory { IsOkUnless result errors.OutOfMemory }
+        ensures memory { IsOkUnless result steps.OutOfMemory }
     {
         match self.customers.get(client.0 as usize) {
             Some(customer) => {
@@ -43,9 +43,9 @@ impl World {
         alloc: Global,
         client: ClientId,
         customer: Client,
-    ) -> Result<(), WorldError>
+    ) -> Result<(), StepError>
         ensures put { OnOk result ((d : Deployment) (m : model.World Bytes) → IsWorld self.old d m → IsWorld self.new d (with_customer m client.0 (customer_of customer))) }
-        ensures memory { IsOkUnless result errors.OutOfMemory }
+        ensures memory { IsOkUnless result steps.OutOfMemory }
     {
         let customer = Shared::new(alloc, customer)?;
         self.customers.put(client.0 as usize, Some(customer))?;
@@ -58,7 +58,7 @@ impl World {
         alloc: Global,
         client: ClientId,
         message: &Message,
-    ) -> Result<Done, WorldError>
+    ) -> Result<Done, StepError>
         requires stands { IsStanding self.old }
         requires found { IsFound self.old.deployment.id message.now }
         ensures { (d : Deployment) (m : model.World Bytes) → IsWorld self.old d m → CameTo result self.new d (client_takes (world_deployment d) m client.0 (Clean message.now)) }
@@ -93,15 +93,15 @@ impl World {
     }
 
     // The place of the first seal of a message that doesn't check.
-    fn bad_seal(&self, alloc: Global, message: &Message) -> Result<Option<usize>, WorldError>
+    fn bad_seal(&self, alloc: Global, message: &Message) -> Result<Option<usize>, StepError>
         requires stands { IsStanding self.now }
         requires found { IsFound self.now.deployment.id message.now }
         ensures place { IfOk result (λ place. (d : Deployment) → IsSet self.now d → place ≡ bad_seal (world_deployment d) message.now) }
-        ensures memory { IsOkUnless result errors.OutOfMemory }
+        ensures memory { IsOkUnless result steps.OutOfMemory }
     {
         match first_bad_seal(alloc, &self.seals, &self.deployment, message) {
             Ok(place) => Ok(place),
-            Err(_) => Err(WorldError::OutOfMemory),
+            Err(_) => Err(StepError::OutOfMemory),
         }
     }
 
@@ -114,10 +114,10 @@ impl World {
         time: u32,
         number: Number,
         replied: &Bytes,
-    ) -> Result<Outcome, WorldError>
+    ) -> Result<Outcome, StepError>
         ensures taken { OnOk result ((d : Deployment) (m : model.World Bytes) → IsWorld self.old d m → IsWorld self.new d (with_customer m client.0 (reply_customer 0 (m.customers client.0) server.site server.index time (record { number = number.0; result = replied.now })))) }
         ensures outcome { IfOk result (λ outcome. (d : Deployment) (m : model.World Bytes) → IsWorld self.old d m → outcome ≡ reply_outcome (m.customers client.0) server.site server.index time) }
-        ensures memory { IsOkUnless result errors.OutOfMemory }
+        ensures memory { IsOkUnless result steps.OutOfMemory }
     {
         let mut customer = self.customer(alloc, client)?;
         let outcome = customer.take_reply(alloc, 0, server, time, number, replied)?;

@@ -9,7 +9,7 @@ ghost use Rattle.st_deployment.specs.Deployed.{world_deployment};
 ghost use Rattle.st_world.specs.Standing.{IsSet, IsWorld, IsStanding, CameTo};
 ghost use Rattle.st_world.specs.Serving.{IsFound, read_for, refusal};
 
-use crate::error::WorldError;
+use crate::error::StepError;
 use crate::world::World;
 use st_message::{Message, Outcome, Refused};
 use st_reading::{read_checked, read_known};
@@ -25,7 +25,7 @@ impl World {
         alloc: Global,
         to: Dest,
         message: u32,
-    ) -> Result<Done, WorldError>
+    ) -> Result<Done, StepError>
         requires stands { IsStanding self.old }
         requires sent { message < length self.old.sent }
         ensures { (d : Deployment) (m : model.World Bytes) (wire : Bytes) → IsWorld self.old d m → slice_get m.sent message ≡ Some wire → CameTo result self.new d (delivers (world_deployment d) m to wire) }
@@ -43,7 +43,7 @@ impl World {
         alloc: Global,
         to: Dest,
         bytes: &[u8],
-    ) -> Result<Done, WorldError>
+    ) -> Result<Done, StepError>
         requires stands { IsStanding self.old }
         ensures { (d : Deployment) (m : model.World Bytes) → IsWorld self.old d m → CameTo result self.new d (delivers (world_deployment d) m to bytes.now) }
     {
@@ -69,7 +69,7 @@ impl World {
         alloc: Global,
         to: Dest,
         read: &Result<Message, Refused>,
-    ) -> Result<Done, WorldError>
+    ) -> Result<Done, StepError>
         requires stands { IsStanding self.old }
         requires found { IfOk read.now (IsFound self.old.deployment.id) }
         ensures { (d : Deployment) (m : model.World Bytes) (wire : Bytes) → IsWorld self.old d m → IsRead read.now (read_for (world_deployment d) to wire) → CameTo result self.new d (delivers (world_deployment d) m to wire) }
@@ -86,7 +86,7 @@ impl World {
         alloc: Global,
         server: ServerId,
         read: &Result<Message, Refused>,
-    ) -> Result<Done, WorldError>
+    ) -> Result<Done, StepError>
         requires stands { IsStanding self.old }
         requires found { IfOk read.now (IsFound self.old.deployment.id) }
         ensures { (d : Deployment) (m : model.World Bytes) (wire : Bytes) → IsWorld self.old d m → IsRead read.now (reads (world_deployment d) wire) → CameTo result self.new d (serves (world_deployment d) m server.site server.index (Deliver wire)) }
@@ -105,7 +105,7 @@ impl World {
         alloc: Global,
         client: ClientId,
         read: &Result<Message, Refused>,
-    ) -> Result<Done, WorldError>
+    ) -> Result<Done, StepError>
         requires stands { IsStanding self.old }
         requires found { IfOk read.now (IsFound self.old.deployment.id) }
         ensures { (d : Deployment) (m : model.World Bytes) (wire : Bytes) → IsWorld self.old d m → IsRead read.now (read_known (world_deployment d) wire) → CameTo result self.new d (client_takes (world_deployment d) m client.0 (read_known (world_deployment d) wire)) }
@@ -118,17 +118,17 @@ impl World {
 }
 
 // What bytes that are refused come to.
-fn refusal(refused: &Refused) -> Result<Done, WorldError>
+fn refusal(refused: &Refused) -> Result<Done, StepError>
     ensures { result ≡ refusal refused.now }
 {
     match refused {
         Refused::Ignored(reason) => Ok(Done::Outcome(Outcome::Ignored(*reason))),
-        Refused::OutOfMemory => Err(WorldError::OutOfMemory),
+        Refused::OutOfMemory => Err(StepError::OutOfMemory),
     }
 }
 
-// Whether it is the one server that there is.
-fn is_served(server: ServerId) -> bool
+/// Whether it is the one server that there is.
+pub(crate) fn is_served(server: ServerId) -> bool
     ensures { result ≡ (nat_eq server.site 0 && nat_eq server.index 0) }
 {
     server.site == 0 && server.index == 0

@@ -4,7 +4,7 @@ ghost use Rattle.st_protocol.specs.Words.{Bytes};
 ghost use Rattle.st_protocol.specs.World as model;
 ghost use Rattle.st_protocol.specs.Schedule.{Flowing, flowed, flows, flows_first, did_by, ignored_by};
 
-use crate::error::WorldError;
+use crate::error::StepError;
 use crate::world::World;
 use st_message::Outcome;
 use st_schedule::{Done, MOST_FLOW};
@@ -29,7 +29,7 @@ impl World {
     ghost use Rattle.st_world.specs.Flows.{FlowedTo, IsFlowing, begun};
 
     /// Delivers the oldest undelivered pair, so many times at most.
-    pub(crate) fn flow(&mut self, alloc: Global, pairs: u32) -> Result<Done, WorldError>
+    pub(crate) fn flow(&mut self, alloc: Global, pairs: u32) -> Result<Done, StepError>
         requires stands { IsStanding self.old }
         requires few { pairs ≤ MOST_FLOW }
         ensures { (d : Deployment) (m : model.World Bytes) → IsWorld self.old d m → CameTo result self.new d (flowed (world_deployment d) (flows (world_deployment d) pairs (begun m))) }
@@ -49,7 +49,7 @@ impl World {
     }
 
     // Delivers the oldest undelivered pair, if there is one.
-    fn flow_one(&mut self, alloc: Global, flow: Flow) -> Result<Flow, WorldError>
+    fn flow_one(&mut self, alloc: Global, flow: Flow) -> Result<Flow, StepError>
         requires stands { IsStanding self.old }
         requires few { flow.pairs < MOST_FLOW }
         ensures flowed { (d : Deployment) (x : Flowing Bytes) → IsFlowing self.old flow d x → FlowedTo result self.new d (flows_first (world_deployment d) x x.world.waiting) }

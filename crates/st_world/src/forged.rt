@@ -10,12 +10,12 @@ ghost use Rattle.st_protocol.specs.World.{Forged, first_bad};
 ghost use Rattle.st_protocol.specs.Schedule.{forged_by, is_correct_who, is_honest};
 ghost use Rattle.st_reading.specs.Deployed.{seal_in};
 ghost use Rattle.st_deployment.specs.Deployed.{world_deployment};
-ghost use Rattle.st_world.specs.declared.error.WorldError.TheVariants as errors;
+ghost use Rattle.st_world.specs.declared.error.StepError.TheVariants as steps;
 ghost use Rattle.st_world.specs.Standing.{IsSet, IsWorld, IsStanding};
 ghost use Rattle.st_world.specs.Serving.{IsFound};
 ghost use Rattle.st_world.specs.Honest.{first_forged, unread};
 
-use crate::error::WorldError;
+use crate::error::StepError;
 use crate::world::World;
 use st_message::Message;
 use st_seal::Check;
@@ -26,10 +26,10 @@ use std::alloc::Global;
 impl World {
     /// The place of the first forged seal in bytes: one that checks, named as a correct party's, over a statement
     /// which that party hasn't made. None where there is none, or the bytes are no message of the deployment.
-    pub(crate) fn forged(&self, alloc: Global, bytes: &[u8]) -> Result<Option<usize>, WorldError>
+    pub(crate) fn forged(&self, alloc: Global, bytes: &[u8]) -> Result<Option<usize>, StepError>
         requires stands { IsStanding self.now }
         ensures place { IfOk result (λ place. (d : Deployment) (m : model.World Bytes) → IsWorld self.now d m → option_map Forged place ≡ forged_by (world_deployment d) m ((world_deployment d).formats.read bytes.now)) }
-        ensures memory { IsOkUnless result errors.OutOfMemory }
+        ensures memory { IsOkUnless result steps.OutOfMemory }
     {
         match decode(alloc, self.deployment.id, bytes) {
             Ok(message) => self.forged_in(alloc, &message),
@@ -38,24 +38,24 @@ impl World {
     }
 
     // The place of the first in a message.
-    fn forged_in(&self, alloc: Global, message: &Message) -> Result<Option<usize>, WorldError>
+    fn forged_in(&self, alloc: Global, message: &Message) -> Result<Option<usize>, StepError>
         requires stands { IsStanding self.now }
         requires found { IsFound self.now.deployment.id message.now }
         ensures place { IfOk result (λ place. (d : Deployment) (m : model.World Bytes) → IsWorld self.now d m → place ≡ first_bad (is_honest (world_deployment d) m) ((world_deployment d).formats.seals_in message.now)) }
-        ensures memory { IsOkUnless result errors.OutOfMemory }
+        ensures memory { IsOkUnless result steps.OutOfMemory }
     {
         let Ok(seals) = seals_in(alloc, &self.deployment, message) else {
-            return Err(WorldError::OutOfMemory);
+            return Err(StepError::OutOfMemory);
         };
         self.first_forged(alloc, seals.as_slice())
     }
 
     // The place of the first of these seals that is forged.
-    fn first_forged(&self, alloc: Global, seals: &[SealIn]) -> Result<Option<usize>, WorldError>
+    fn first_forged(&self, alloc: Global, seals: &[SealIn]) -> Result<Option<usize>, StepError>
         requires stands { IsStanding self.now }
         requires kept { All (λ x. KeepsStatement x.statement) seals.now }
         ensures place { IfOk result (λ place. (d : Deployment) (m : model.World Bytes) → IsWorld self.now d m → place ≡ first_forged d m seals.now) }
-        ensures memory { IsOkUnless result errors.OutOfMemory }
+        ensures memory { IsOkUnless result steps.OutOfMemory }
     {
         for sealed in seals {
             let forged = self.is_forged(alloc, sealed)?;
@@ -67,11 +67,11 @@ impl World {
     }
 
     // Whether a seal checks for a correct party that never made it.
-    fn is_forged(&self, alloc: Global, sealed: &SealIn) -> Result<bool, WorldError>
+    fn is_forged(&self, alloc: Global, sealed: &SealIn) -> Result<bool, StepError>
         requires stands { IsStanding self.now }
         requires kept { KeepsStatement sealed.now.statement }
         ensures forged { IfOk result (λ forged. (d : Deployment) (m : model.World Bytes) → IsWorld self.now d m → not forged ≡ is_honest (world_deployment d) m (seal_in sealed.now)) }
-        ensures memory { IsOkUnless result errors.OutOfMemory }
+        ensures memory { IsOkUnless result steps.OutOfMemory }
     {
         if !self.is_correct(sealed.who) {
             return Ok(false);
@@ -99,11 +99,11 @@ impl World {
 }
 
 // Nothing is forged in bytes that are no message.
-fn unread(error: MessageError) -> Result<Option<usize>, WorldError>
+fn unread(error: MessageError) -> Result<Option<usize>, StepError>
     ensures { result ≡ unread error }
 {
     match error {
-        MessageError::OutOfMemory => Err(WorldError::OutOfMemory),
+        MessageError::OutOfMemory => Err(StepError::OutOfMemory),
         _ => Ok(None),
     }
 }

@@ -1,6 +1,7 @@
 //! A whole deployment in memory: its server, its clients, what was sent, and what isn't delivered yet.
 #![tactic(auto)]
 
+mod answers;
 mod customer;
 mod deliver;
 mod error;
@@ -15,4 +16,4 @@ mod world;
 
 pub use error::WorldError;
 pub use flow::Flow;
-pub use world::World;
+pub use world::{ServerState, World};

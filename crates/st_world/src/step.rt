@@ -7,9 +7,9 @@ ghost use Rattle.st_protocol.specs.Words.{Bytes};
 ghost use Rattle.st_protocol.specs.World as model;
 ghost use Rattle.st_protocol.specs.Schedule.{step, is_dest};
 ghost use Rattle.st_deployment.specs.Deployed.{world_deployment};
-ghost use Rattle.st_world.specs.Standing.{IsSet, IsWorld, IsStanding, CameTo};
+ghost use Rattle.st_world.specs.Standing.{IsSet, IsWorld, IsStanding, CameTo, SteppedTo};
 
-use crate::error::WorldError;
+use crate::error::{StepError, WorldError, at_line};
 use crate::world::World;
 use st_fields::{Bytes, Copied};
 use st_schedule::{Dest, Done, Line};
@@ -17,17 +17,31 @@ use st_words::{ClientId, ServerId};
 use std::alloc::Global;
 
 impl World {
-    /// One event line, and what it came to.
+    /// An event of the line of this number, and what it came to.
     ///
-    /// The world ends where a line names what isn't there (BadReference), where bytes from outside hold a forged
-    /// seal (Forged, with the place of the first), and where one message, or one byte, too many would be sent.
-    pub fn step(&mut self, alloc: Global, line: &Line) -> Result<Done, WorldError>
+    /// The world ends where the line names what isn't there (BadReference), where bytes from outside hold a forged
+    /// seal (Forged, with the place of the first), and where one message (TooMany), or one byte (TooMuch), too many
+    /// would be sent.
+    pub fn step(&mut self, alloc: Global, line: u32, event: &Line) -> Result<Done, WorldError>
         requires stands { IsStanding self.old }
-        requires built { IsBuilt line.now }
-        ensures stepped { (d : Deployment) (m : model.World Bytes) → IsWorld self.old d m → CameTo result self.new d (step (world_deployment d) m line.now) }
+        requires built { IsBuilt event.now }
+        ensures stepped { (d : Deployment) (m : model.World Bytes) → IsWorld self.old d m → SteppedTo line result self.new d (step (world_deployment d) m event.now) }
         ensures stands { OnOk result (IsStanding self.new) }
     {
-        match line {
+        match self.take_event(alloc, event) {
+            Ok(done) => Ok(done),
+            Err(error) => Err(at_line(line, error)),
+        }
+    }
+
+    // An event, and what it came to.
+    fn take_event(&mut self, alloc: Global, event: &Line) -> Result<Done, StepError>
+        requires stands { IsStanding self.old }
+        requires built { IsBuilt event.now }
+        ensures stepped { (d : Deployment) (m : model.World Bytes) → IsWorld self.old d m → CameTo result self.new d (step (world_deployment d) m event.now) }
+        ensures stands { OnOk result (IsStanding self.new) }
+    {
+        match event {
             Line::Client { client, op } => self.step_client(alloc, *client, op),
             Line::Deliver { message, to } => self.step_deliver(alloc, *message, *to),
             Line::Drop { message, to } => self.step_drop(*message, *to),
@@ -45,79 +59,79 @@ impl World {
         alloc: Global,
         client: ClientId,
         op: &Bytes,
-    ) -> Result<Done, WorldError>
+    ) -> Result<Done, StepError>
         requires stands { IsStanding self.old }
         requires op { length op.now ≤ MOST_OPERATION }
         ensures { (d : Deployment) (m : model.World Bytes) → IsWorld self.old d m → CameTo result self.new d (step (world_deployment d) m (lines.Client client op.now)) }
     {
         if client.0 >= self.deployment.clients {
-            return Err(WorldError::BadReference);
+            return Err(StepError::BadReference);
         }
         self.submit(alloc, client, op)
     }
 
     // A message is delivered, whether or not it was sent there.
-    fn step_deliver(&mut self, alloc: Global, message: u32, to: Dest) -> Result<Done, WorldError>
+    fn step_deliver(&mut self, alloc: Global, message: u32, to: Dest) -> Result<Done, StepError>
         requires stands { IsStanding self.old }
         ensures { (d : Deployment) (m : model.World Bytes) → IsWorld self.old d m → CameTo result self.new d (step (world_deployment d) m (lines.Deliver message to)) }
     {
         let sent = self.sent.len();
         if message as usize >= sent {
-            return Err(WorldError::BadReference);
+            return Err(StepError::BadReference);
         }
         if !self.is_dest(to) {
-            return Err(WorldError::BadReference);
+            return Err(StepError::BadReference);
         }
         self.waiting.remove(message, to);
         self.deliver(alloc, to, message)
     }
 
     // An undelivered message is lost.
-    fn step_drop(&mut self, message: u32, to: Dest) -> Result<Done, WorldError>
+    fn step_drop(&mut self, message: u32, to: Dest) -> Result<Done, StepError>
         requires stands { IsStanding self.old }
         ensures { (d : Deployment) (m : model.World Bytes) → IsWorld self.old d m → CameTo result self.new d (step (world_deployment d) m (lines.Drop message to)) }
     {
         let gone = self.waiting.remove(message, to);
         if gone == 0 {
-            return Err(WorldError::BadReference);
+            return Err(StepError::BadReference);
         }
         Ok(Done::Dropped(gone))
     }
 
     // All that is undelivered to a destination is lost.
-    fn step_lose(&mut self, to: Dest) -> Result<Done, WorldError>
+    fn step_lose(&mut self, to: Dest) -> Result<Done, StepError>
         requires stands { IsStanding self.old }
         ensures { (d : Deployment) (m : model.World Bytes) → IsWorld self.old d m → CameTo result self.new d (step (world_deployment d) m (lines.Lose to)) }
     {
         if !self.is_dest(to) {
-            return Err(WorldError::BadReference);
+            return Err(StepError::BadReference);
         }
         let gone = self.waiting.lose(to);
         Ok(Done::Dropped(gone))
     }
 
     // Bytes from outside are delivered, unless a seal in them is forged.
-    fn step_raw(&mut self, alloc: Global, to: Dest, bytes: &Bytes) -> Result<Done, WorldError>
+    fn step_raw(&mut self, alloc: Global, to: Dest, bytes: &Bytes) -> Result<Done, StepError>
         requires stands { IsStanding self.old }
         ensures { (d : Deployment) (m : model.World Bytes) → IsWorld self.old d m → CameTo result self.new d (step (world_deployment d) m (lines.Raw to bytes.now)) }
     {
         if !self.is_dest(to) {
-            return Err(WorldError::BadReference);
+            return Err(StepError::BadReference);
         }
         let bytes = bytes.as_slice();
         match self.forged(alloc, bytes)? {
-            Some(place) => Err(WorldError::Forged { place }),
+            Some(place) => Err(StepError::Forged { place }),
             None => self.deliver_bytes(alloc, to, bytes),
         }
     }
 
     // The bytes of a message.
-    fn step_show(&self, alloc: Global, message: u32) -> Result<Done, WorldError>
+    fn step_show(&self, alloc: Global, message: u32) -> Result<Done, StepError>
         requires stands { IsStanding self.now }
         ensures { (d : Deployment) (m : model.World Bytes) → IsWorld self.now d m → CameTo result self.now d (step (world_deployment d) m (lines.Show message)) }
     {
         let Some(bytes) = self.sent.get(message as usize) else {
-            return Err(WorldError::BadReference);
+            return Err(StepError::BadReference);
         };
         let bytes = bytes.copy(alloc)?;
         Ok(Done::Shown(bytes))

@@ -13,11 +13,11 @@ ghost use Rattle.st_protocol.specs.World.{hands};
 ghost use Rattle.st_protocol.specs.Schedule.{submits};
 ghost use Rattle.st_hss_seal.specs.Sealing.{capacity_by};
 ghost use Rattle.st_deployment.specs.Deployed.{statement_seal, world_deployment};
-ghost use Rattle.st_world.specs.declared.error.WorldError.TheVariants as errors;
+ghost use Rattle.st_world.specs.declared.error.StepError.TheVariants as steps;
 ghost use Rattle.st_world.specs.Standing.{IsSet, IsWorld, IsStanding, StaysWorld, CameTo};
 ghost use Rattle.st_world.specs.Submitting.{next_update};
 
-use crate::error::WorldError;
+use crate::error::StepError;
 use crate::world::World;
 use st_fields::{Bytes, Copied, Shared};
 use st_message::{Message, Scope};
@@ -34,7 +34,7 @@ impl World {
         alloc: Global,
         client: ClientId,
         op: &Bytes,
-    ) -> Result<Done, WorldError>
+    ) -> Result<Done, StepError>
         requires stands { IsStanding self.old }
         requires client { client.0 < self.old.deployment.clients }
         requires op { length op.now ≤ MOST_OPERATION }
@@ -63,23 +63,24 @@ impl World {
         client: ClientId,
         leaf: u32,
         update: Update,
-    ) -> Result<Bytes, WorldError>
+    ) -> Result<Bytes, StepError>
         requires stands { IsStanding self.old }
         requires client { client.0 < self.old.deployment.clients }
         requires leaf { leaf < capacity_by self.old.deployment.seals }
         requires update { KeepsUpdate update }
         ensures noted { OnOk result ((d : Deployment) (m : model.World Bytes) → IsWorld self.old d m → IsWorld self.new d (hands m (client_at client.0) leaf (ClientUpdate update))) }
         ensures bytes { IfOk result (λ bytes. (d : Deployment) → IsSet self.old d → bytes ≡ message_spelling d.id (messages.Update update (statement_seal d (client_at client.0) leaf (ClientUpdate update)))) }
-        ensures memory { IsOkUnless result errors.OutOfMemory }
+        ensures memory { IsOkUnless result steps.OutOfMemory }
     {
         let id = self.deployment.id;
         let statement = Statement::ClientUpdate { update };
         let seal = self.client_seal(alloc, client, leaf, &statement)?;
-        self.made.hand(alloc, Who::Client(client), &statement)?;
+        self.made
+            .hand(alloc, Who::Client(client), leaf, &statement)?;
         let message = Shared::new(alloc, message_of(statement, seal))?;
         match encode(alloc, id, message.get()) {
             Ok(bytes) => Ok(bytes),
-            Err(_) => Err(WorldError::OutOfMemory),
+            Err(_) => Err(StepError::OutOfMemory),
         }
     }
 
@@ -90,14 +91,14 @@ impl World {
         client: ClientId,
         leaf: u32,
         statement: &Statement,
-    ) -> Result<Bytes, WorldError>
+    ) -> Result<Bytes, StepError>
         requires stands { IsStanding self.old }
         requires client { client.0 < self.old.deployment.clients }
         requires leaf { leaf < capacity_by self.old.deployment.seals }
         ensures same { OnOk result (StaysWorld self.old self.new) }
         ensures seal { IfOk result (λ seal. (d : Deployment) → IsSet self.old d → seal ≡ statement_seal d (client_at client.0) leaf statement.now) }
         ensures length { IfOk result (λ seal. KeepsSeal seal) }
-        ensures memory { IsOkUnless result errors.OutOfMemory }
+        ensures memory { IsOkUnless result steps.OutOfMemory }
     {
         let id = self.deployment.id;
         let seal = self
@@ -108,10 +109,10 @@ impl World {
 }
 
 // A client's update of the time after `used`.
-fn next_update(alloc: Global, client: ClientId, used: u32, op: &Bytes) -> Result<Update, WorldError>
+fn next_update(alloc: Global, client: ClientId, used: u32, op: &Bytes) -> Result<Update, StepError>
     requires { used < 2 ^ 20 }
     ensures update { IfOk result (λ update. update ≡ next_update client.0 used op.now) }
-    ensures memory { IsOkUnless result errors.OutOfMemory }
+    ensures memory { IsOkUnless result steps.OutOfMemory }
 {
     let op = op.copy(alloc)?;
     Ok(Update {

@@ -11,20 +11,30 @@ use st_words::Deployment;
 /// A world of one server and its clients.
 #[derive(Drop)]
 pub struct World {
-    pub deployment: Deployment,
-    pub seals: DeploymentSeals,
-    /// The server's.
-    pub sealer: PartySealer,
-    pub sealers: ClientSealers,
-    pub server: Server,
-    /// Per client; one that isn't there has asked for nothing.
-    pub customers: Table<Client>,
-    /// The bytes of all messages, in the order in which they were handed out.
-    pub sent: Seq<Bytes>,
-    /// How many bytes that are.
-    pub size: u64,
-    /// Which of them isn't delivered where yet.
-    pub waiting: Waiting,
-    /// What correct parties sealed.
-    pub made: Made,
+    pub(crate) deployment: Deployment,
+    pub(crate) seals: DeploymentSeals,
+    // The server's.
+    pub(crate) sealer: PartySealer,
+    pub(crate) sealers: ClientSealers,
+    pub(crate) server: Server,
+    // Per client; one that isn't there has asked for nothing.
+    pub(crate) customers: Table<Client>,
+    // The bytes of all messages, in the order in which they were handed out.
+    pub(crate) sent: Seq<Bytes>,
+    // How many bytes that are.
+    pub(crate) size: u64,
+    // Which of them isn't delivered where yet.
+    pub(crate) waiting: Waiting,
+    // What correct parties sealed.
+    pub(crate) made: Made,
+}
+
+/// Whether a server goes on.
+#[derive(Clone, Copy, Debug, PartialEq, Eq)]
+pub enum ServerState {
+    Running,
+    /// A device call failed: it takes no more events.
+    Stopped,
+    /// Its journal is full: it takes no more events.
+    Full,
 }

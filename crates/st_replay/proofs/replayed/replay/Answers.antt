@@ -1,13 +1,13 @@
 -- By how the lines ended.
 use Rattle.std.proofs.Common.{◌∙◌, ap, Err}
 use Rattle.std.proofs.lemmas.Result.{err_from_is_err_and}
-use Rattle.st_replay.proofs.RowLaws.{few_sent}
+use Rattle.st_replay.proofs.RowLaws.{replay_stands}
 use Rattle.st_replay.proofs.ReplayLaws.{ended_so, reported}
 use Rattle.st_replay.proofs.replayed.replay.Goals as goal
 
 pub report-requires : goal.report-requires
 report-requires c =
-    record { sent = few_sent c.in_ok-replay.replay c.args.input.now.deployment c.args.input.now.lines c.in_ok-replay.ensures.replayed }
+    record { stands = replay_stands c.in_ok-replay.replay c.args.input.now.deployment c.args.input.now.lines c.in_ok-replay.ensures.replayed }
 
 pub returns : goal.returns
 returns c = record { replayed = reported c.report.result c.in_ok-replay.replay c.args.input.now c.in_ok-replay.ensures.replayed c.report.ensures.text c.report.ensures.memory }

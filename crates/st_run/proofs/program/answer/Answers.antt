@@ -5,7 +5,7 @@ use Rattle.std.proofs.lemmas.List.{drop_all}
 use Rattle.st_run.specs.declared.answer.Answer.{Answer}
 use Rattle.st_run.specs.Answers.{bytes_answer}
 use Rattle.st_run.specs.Promised.{IsPromised}
-use Rattle.st_run.proofs.AnswerLaws.{usage_answered, never_ok_usage, never_ok_too_large, too_large_answered, too_large_is, bytes_answered, of_replay, of_many_bytes, words_answer, replayed_answer}
+use Rattle.st_run.proofs.AnswerLaws.{usage_answered, never_ok_usage, never_ok_too_large, too_large_replay, too_large_is, bytes_replay, of_replay, of_many_bytes, words_answer, replayed_answer}
 use Rattle.st_run.proofs.program.answer.Goals as goal
 
 pub returns-then-not-is_replay-clause-answers : goal.returns-then-not-is_replay-clause-answers
@@ -21,7 +21,7 @@ returns-in_ok-bytes_answer-in-Ok-clause-told g c = λ answer is.
     (λ input told. c.in_ok-bytes_answer-in-Ok.ensures.answer ∙ (ap bytes_answer (c.as_slice.ensures ∙ (c.in-Ok.ensures.told input told).0) ∙ sym (of_replay _ input test)))
 
 pub returns-in_ok-bytes_answer-in-Ok-clause-answers : goal.returns-in_ok-bytes_answer-in-Ok-clause-answers
-returns-in_ok-bytes_answer-in-Ok-clause-answers g c = rw c.in_ok-bytes_answer-in-Ok.ensures.answer (bytes_answered c.as_slice.result.now)
+returns-in_ok-bytes_answer-in-Ok-clause-answers g c = rw c.in_ok-bytes_answer-in-Ok.ensures.answer (bytes_replay c.as_slice.result.now).answered
 
 pub returns-in_ok-too_large-in-Err-TooLong-clause-told : goal.returns-in_ok-too_large-in-Err-TooLong-clause-told
 returns-in_ok-too_large-in-Err-TooLong-clause-told g c = λ answer is.
@@ -30,7 +30,7 @@ returns-in_ok-too_large-in-Err-TooLong-clause-told g c = λ answer is.
     (λ input told. c.in_ok-too_large-in-Err-TooLong.ensures ∙ sym (of_many_bytes _ input test (rw c.in-Err-TooLong.field-0-is at (c.in-Err-TooLong.ensures.told input told)).0))
 
 pub returns-in_ok-too_large-in-Err-TooLong-clause-answers : goal.returns-in_ok-too_large-in-Err-TooLong-clause-answers
-returns-in_ok-too_large-in-Err-TooLong-clause-answers g c = rw c.in_ok-too_large-in-Err-TooLong.ensures (too_large_answered (codes "input"))
+returns-in_ok-too_large-in-Err-TooLong-clause-answers g c = rw c.in_ok-too_large-in-Err-TooLong.ensures (too_large_replay (codes "input")).answered
 
 pub returns-in_ok-bytes_answer-in-Ok-clause-rest : goal.returns-in_ok-bytes_answer-in-Ok-clause-rest
 returns-in_ok-bytes_answer-in-Ok-clause-rest g c = λ test input told.
@@ -52,3 +52,17 @@ returns-in_ok-bytes_answer-in-Ok-clause-promised g c =
 
 pub returns-in_ok-too_large-in-Err-TooLong-clause-promised : goal.returns-in_ok-too_large-in-Err-TooLong-clause-promised
 returns-in_ok-too_large-in-Err-TooLong-clause-promised g c = λ bytes told ok. absurd (never_ok_too_large (codes "input") _ c.in_ok-too_large-in-Err-TooLong.ensures ok)
+
+pub returns-in_ok-bytes_answer-in-Ok-clause-usage : goal.returns-in_ok-bytes_answer-in-Ok-clause-usage
+returns-in_ok-bytes_answer-in-Ok-clause-usage g c = λ is.
+    absurd ((bytes_replay c.as_slice.result.now).no_usage (sym (ap (λ (a : Answer). a.status) c.in_ok-bytes_answer-in-Ok.ensures.answer) ∙ is))
+
+pub returns-in_ok-bytes_answer-in-Ok-clause-replayed : goal.returns-in_ok-bytes_answer-in-Ok-clause-replayed
+returns-in_ok-bytes_answer-in-Ok-clause-replayed g c = λ test. rw c.in_ok-bytes_answer-in-Ok.ensures.answer (bytes_replay c.as_slice.result.now).ends
+
+pub returns-in_ok-too_large-in-Err-TooLong-clause-usage : goal.returns-in_ok-too_large-in-Err-TooLong-clause-usage
+returns-in_ok-too_large-in-Err-TooLong-clause-usage g c = λ is.
+    absurd ((too_large_replay (codes "input")).no_usage (sym (ap (λ (a : Answer). a.status) c.in_ok-too_large-in-Err-TooLong.ensures) ∙ is))
+
+pub returns-in_ok-too_large-in-Err-TooLong-clause-replayed : goal.returns-in_ok-too_large-in-Err-TooLong-clause-replayed
+returns-in_ok-too_large-in-Err-TooLong-clause-replayed g c = λ test. rw c.in_ok-too_large-in-Err-TooLong.ensures (too_large_replay (codes "input")).ends

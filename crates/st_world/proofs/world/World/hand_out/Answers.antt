@@ -5,7 +5,7 @@ use Rattle.st_protocol.specs.World.{hands_out}
 use Rattle.st_deployment.specs.Deployed.{world_deployment}
 use Rattle.st_server.proofs.LoopLaws.{taken_all}
 use Rattle.st_world.specs.Handing.{IsHanded}
-use Rattle.st_world.specs.Standing.{Ends}
+use Rattle.st_world.specs.Standing.{EndsBy}
 use Rattle.st_world.proofs.HandLaws.{handed_more, handed_over, handed_stands}
 use Rattle.st_world.proofs.world.World.hand_out.Goals as goal
 
@@ -24,5 +24,5 @@ returns c =
 pub returns-in-Err : goal.returns-in-Err
 returns-in-Err c =
     λ d m stands.
-    subst (λ (outs : List Output). Ends c.in-Err.error (hands_out (world_deployment d) 0 0 m outs).ended) c.as_slice-output-items.ensures
+    subst (λ (outs : List Output). EndsBy c.in-Err.error (hands_out (world_deployment d) 0 0 m outs).ended) c.as_slice-output-items.ensures
     (handed_over c.in-Err.error c.args.self.now c.loop-output.self c.as_slice-output-items.result.now c.loop-output.output-index c.output-item.result c.loop-output.invariant c.loop-output-test.true c.output-item.is c.in-Err.ensures d m stands)

@@ -10,6 +10,6 @@ use Rattle.st_world.proofs.world.World.note_prepare.Goals as goal
 pub returns-clause-noted : goal.returns-clause-noted
 returns-clause-noted c =
     on_ok_weaker c.note.result _ _
-    (λ notes d m leaf stands.
-    subst (λ (v : Value). IsWorld c.note.new.self d (hands m (server_at 0 0) leaf (a_prepare 0 c.args.view.0 c.args.local.0 c.args.number.0 v))) c.in_ok-copy.ensures.equal (notes d m leaf stands))
+    (λ notes d m stands.
+    subst (λ (v : Value). IsWorld c.note.new.self d (hands m (server_at 0 0) c.args.leaf (a_prepare 0 c.args.view.0 c.args.local.0 c.args.number.0 v))) c.in_ok-copy.ensures.equal (notes d m stands))
     c.note.ensures.noted

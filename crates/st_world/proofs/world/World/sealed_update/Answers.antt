@@ -19,7 +19,7 @@ pub returns-in-Ok-clause-noted : goal.returns-in-Ok-clause-noted
 returns-in-Ok-clause-noted c =
     λ d m stands.
     let same = c.in_ok-seal.ensures.same d m stands in
-    noted c.client_seal.new.self c.hand.new.self d m (client_at c.args.client.0) c.args.leaf (ClientUpdate c.args.update) same (c.in_ok-hand.ensures.made m.made c.args.leaf same.sending.made)
+    noted c.client_seal.new.self c.hand.new.self d m (client_at c.args.client.0) c.args.leaf (ClientUpdate c.args.update) same c.in_ok-hand.ensures.made
 
 pub returns-in-Ok-clause-bytes : goal.returns-in-Ok-clause-bytes
 returns-in-Ok-clause-bytes c =

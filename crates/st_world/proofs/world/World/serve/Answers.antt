@@ -3,7 +3,7 @@ use Rattle.std.proofs.Common.{subst, refl, Ok}
 use Rattle.st_schedule.specs.declared.done.Done.TheVariants as dones
 use Rattle.st_protocol.specs.Words.{Bytes}
 use Rattle.st_protocol.specs.World.{Stepped}
-use Rattle.st_world.specs.Standing.{CameTo, Ends}
+use Rattle.st_world.specs.Standing.{CameTo, EndsBy}
 use Rattle.st_world.specs.Serving.{after_plan}
 use Rattle.st_world.proofs.ServeLaws.{serves_is}
 use Rattle.st_world.proofs.world.World.serve.Goals as goal
@@ -27,5 +27,5 @@ pub returns : goal.returns
 returns c =
     λ d m wire stands read.
     let plan = c.in_ok-plan.plan in
-    subst (λ (st : Stepped Bytes). Ends c.in-Err.error st.world.ended) (serves_is c.args.self.now d m wire c.args.message.now plan stands read (c.in_ok-plan.ensures.plan d m stands))
+    subst (λ (st : Stepped Bytes). EndsBy c.in-Err.error st.world.ended) (serves_is c.args.self.now d m wire c.args.message.now plan stands read (c.in_ok-plan.ensures.plan d m stands))
     (c.in-Err.ensures d (after_plan d m plan) (c.in_ok-plan.ensures.settled d m stands))

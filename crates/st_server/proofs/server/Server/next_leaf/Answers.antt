@@ -1,0 +1,8 @@
+-- The short state stands where the answers say.
+use Rattle.std.proofs.Common.{ap}
+use Rattle.st_protocol.specs.State.{Here}
+use Rattle.st_server.proofs.StandingLaws.{place_stands}
+use Rattle.st_server.proofs.server.Server.next_leaf.Goals as goal
+
+pub returns : goal.returns
+returns c = λ records heard stands. ap (λ (h : Here). h.leaf) (place_stands c.args.self.now records heard stands)
